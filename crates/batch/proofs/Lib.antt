@@ -1,0 +1,5 @@
+pub mod Decides
+pub mod Passes
+pub mod Track
+pub mod Kept
+pub mod Meets

@@ -1,0 +1,9 @@
+pub mod Tree
+pub mod Flat
+pub mod WellFormed
+pub mod Read
+pub mod Samples
+pub mod Place
+pub mod Sets
+pub mod One
+pub mod Outcome

@@ -1,0 +1,76 @@
+-- What an operation that writes answers, and what it leaves in the buffers lent to it: once, for all of them.
+-- Assumes nothing: these are definitions.
+use mathlib.Core.Path.{_≡_}
+use mathlib.Core.Bool.{Bool, true, false, _&&_, cond}
+use Prim.Native.Nat.{ℕ, _*_}
+use mathlib.Core.List.{List, _++_}
+use lib.Dec.{leb, eqb}
+use lib.ListN.{length, drop, replicate}
+use Rattle.record.specs.Tree.{Forest}
+use Rattle.record.specs.Flat.{rowWidth, nodeWidth, flatNodes, flatRows}
+use Rattle.record.specs.WellFormed.{nodesIn, rowsIn}
+use Rattle.record.specs.Read.{fitsOk}
+use Rattle.record.specs.Refusals.{numberOf}
+use Rattle.record.specs.declared.Refusal.{Refusal}
+use Rattle.record.specs.declared.Refusal.the-variants.{NoRoom}
+use Rattle.record.specs.declared.Written.{Written}
+use Rattle.record.specs.declared.Written.the-variants.{Refused, Done}
+
+-- "either does its work or refuses with a number": refused, or done with the encodings that it writes
+pub data Outcome : Type 0 where
+  refused : Refusal → Outcome
+  done : Forest → Outcome
+
+-- "2 means the result needs more rows, nodes or levels than the limits above or more rows or nodes than the output
+-- holds": f as the result in an output of the two lists
+unfoldable pub inRoom : List ℕ → List ℕ → Forest → Outcome
+inRoom nodes rows f = cond (fitsOk f && (leb (nodesIn f * nodeWidth) (length nodes) && leb (rowsIn f * rowWidth) (length rows))) (done f) (refused NoRoom)
+
+-- ---- The answer
+
+-- refused with its number, or done with the nodes and rows of the result
+abbrev pub answered : Outcome → Written
+answered (refused k) = Refused k
+answered (done f) = Done (nodesIn f) (rowsIn f)
+
+-- "A refusal carries only its number": document 01's number for each case, 0 where the work is done, and the two counts
+abbrev pub refusalOf : Written → ℕ
+refusalOf (Refused k) = numberOf k
+refusalOf (Done n r) = 0
+
+abbrev pub nodesOf : Written → ℕ
+nodesOf (Refused k) = 0
+nodesOf (Done n r) = n
+
+abbrev pub rowsOf : Written → ℕ
+rowsOf (Refused k) = 0
+rowsOf (Done n r) = r
+
+-- ---- The buffers
+
+abbrev pub zeros : List ℕ → List ℕ
+zeros was = replicate (length was) 0
+
+-- "A refusal changes no buffer, save 6"; "6 leaves output and working store all zeros"
+abbrev pub afterRefusal : Refusal → List ℕ → List ℕ
+afterRefusal k was = cond (eqb (numberOf k) 6) (zeros was) was
+
+-- "On success numbers past the result are untouched": the result, then what was there
+abbrev pub over : List ℕ → List ℕ → List ℕ
+over result was = result ++ drop (length result) was
+
+-- what stands in an output that held `was`, of which `flat` is the part written
+unfoldable pub left : (Forest → List ℕ) → Outcome → List ℕ → List ℕ
+left flat (refused k) was = afterRefusal k was
+left flat (done f) was = over (flat f) was
+
+-- "and a working store is zeroed"
+unfoldable pub leftWorking : Outcome → List ℕ → List ℕ
+leftWorking (refused k) was = afterRefusal k was
+leftWorking (done f) was = zeros was
+
+-- The promise of an operation that writes: its answer, and every number lent for its output afterwards.
+pub record Writes (o : Outcome) (answer : Written) (nodes rows nodes′ rows′ : List ℕ) : Type 0 where
+  pub answers : answer ≡ answered o
+  pub nodes-left : nodes′ ≡ left flatNodes o nodes
+  pub rows-left : rows′ ≡ left flatRows o rows

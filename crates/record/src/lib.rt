@@ -1,0 +1,180 @@
+// The encoding record as it is lent (document 01): its widths, limits and columns, the refusals, the answer of the
+// operations that write, and the copying that they share.
+ghost use mathlib.Core.Path.{_≡_};
+ghost use mathlib.Core.List.{[], _∷_};
+ghost use Prim.Native.Nat.{_+_, _≤_};
+ghost use lib.ListN.{length, take, drop, replicate};
+ghost use lib.Seq.{sets};
+ghost use Rattle.record.specs.Tree.{forest, empty};
+ghost use Rattle.record.specs.Flat.{rowWidth, nodeWidth, flatNodes};
+ghost use Rattle.record.specs.Refusals.{numberOf};
+ghost use Rattle.record.specs.Outcome.{zeros};
+
+// What an encoding measures. The record itself is two lent slices, nodes and rows.
+pub struct Encoding {}
+
+impl Encoding {
+    pub const ROW_WIDTH: usize = 11;
+
+    pub const SEQUENCES: usize = 8;
+
+    pub const RANGE_WIDTH: usize = 3;
+
+    // Where a node's ranges begin: after its row count and its window count.
+    pub const RANGES: usize = 2;
+
+    pub const NODE_WIDTH: usize = 2 + 3 * Encoding::SEQUENCES;
+
+    pub const MOST_NODES: usize = 4096;
+
+    pub const MOST_ROWS: usize = 65536;
+
+    pub const MOST_LEVELS: usize = 16;
+
+    pub const MOST_NODE_NUMBERS: usize = Encoding::MOST_NODES * Encoding::NODE_WIDTH;
+
+    pub const MOST_ROW_NUMBERS: usize = Encoding::MOST_ROWS * Encoding::ROW_WIDTH;
+
+    // The node of the empty encoding, which has no rows.
+    pub fn empty() -> [u32; Encoding::NODE_WIDTH]
+        ensures { λ r. ⌜ r ≡ flatNodes (forest (empty ∷ [])) ⌝ }
+    {
+        [0; Encoding::NODE_WIDTH]
+    }
+}
+
+// The place of each number in a row.
+pub struct Column {}
+
+impl Column {
+    pub const ID: usize = 0;
+
+    pub const TYPE_ID: usize = 1;
+
+    pub const POOL: usize = 2;
+
+    pub const TEXT_START: usize = 3;
+
+    pub const TEXT_LENGTH: usize = 4;
+
+    pub const WORD_MARK: usize = 5;
+
+    pub const WORD: usize = 6;
+
+    pub const OFFSET_START: usize = 7;
+
+    pub const OFFSET_END: usize = 8;
+
+    pub const SPECIAL: usize = 9;
+
+    pub const ATTENTION: usize = 10;
+}
+
+// Why an operation does not do its work, in the order of document 01's numbers.
+pub enum Refusal {
+    MalformedRecord,
+    NoRoom,
+    Stride,
+    SecondMissing,
+    TooShort,
+    OffsetTooLarge,
+    PartUnreadable,
+    TemplateTooLong,
+    PairLacksAOrB,
+    SpecialIdUnknown,
+    BWithoutSecond,
+    IdsAndTextsDiffer,
+    SequenceIdAboveLast,
+    TextOutsidePool,
+    MalformedTable,
+}
+
+impl Refusal {
+    // Document 01's number.
+    pub fn number(self) -> u32
+        ensures { λ r. ⌜ r ≡ numberOf self ⌝ }
+    {
+        match self {
+            Refusal::MalformedRecord => 1,
+            Refusal::NoRoom => 2,
+            Refusal::Stride => 3,
+            Refusal::SecondMissing => 4,
+            Refusal::TooShort => 5,
+            Refusal::OffsetTooLarge => 6,
+            Refusal::PartUnreadable => 7,
+            Refusal::TemplateTooLong => 8,
+            Refusal::PairLacksAOrB => 9,
+            Refusal::SpecialIdUnknown => 10,
+            Refusal::BWithoutSecond => 11,
+            Refusal::IdsAndTextsDiffer => 12,
+            Refusal::SequenceIdAboveLast => 13,
+            Refusal::TextOutsidePool => 14,
+            Refusal::MalformedTable => 15,
+        }
+    }
+}
+
+// What an operation that writes answers: refused, or done with the nodes and rows of its result.
+pub enum Written {
+    Refused(Refusal),
+    Done { nodes: usize, rows: usize },
+}
+
+pub fn row_width() -> usize
+    ensures { λ r. ⌜ r ≡ rowWidth ⌝ }
+{
+    Encoding::ROW_WIDTH
+}
+
+pub fn node_width() -> usize
+    ensures { λ r. ⌜ r ≡ nodeWidth ⌝ }
+{
+    Encoding::NODE_WIDTH
+}
+
+// All of src, into a slice of the same length.
+pub fn copy_whole(src: &[u32], dst: &mut [u32])
+    requires { ⌜ length (now src) ≡ length (now dst) ⌝ }
+    ensures { λ _. ⌜ now (dst .exit) ≡ now (src .entry) ⌝ }
+{
+    let mut i = 0;
+    while i < src.len() {
+        dst[i] = src[i];
+        i += 1;
+    }
+}
+
+// n numbers of src from `from` on, into dst from `at` on. Parts are lent to the copy of the whole, which compiles to a
+// block copy.
+pub fn copy(src: &[u32], from: usize, n: usize, dst: &mut [u32], at: usize)
+    requires { ⌜ (from + n ≤ length (now src)) × (at + n ≤ length (now dst)) ⌝ }
+    ensures { λ _. ⌜ now (dst .exit) ≡ sets (now (dst .entry)) at (take n (drop from (now (src .entry)))) ⌝ }
+{
+    copy_whole(&src[from..from + n], &mut dst[at..at + n]);
+}
+
+// The number v everywhere.
+pub fn fill_whole(dst: &mut [u32], v: u32)
+    ensures { λ _. ⌜ now (dst .exit) ≡ replicate (length (now (dst .entry))) v ⌝ }
+{
+    let mut i = 0;
+    while i < dst.len() {
+        dst[i] = v;
+        i += 1;
+    }
+}
+
+// The number v, n times from `at` on.
+pub fn fill(dst: &mut [u32], at: usize, n: usize, v: u32)
+    requires { ⌜ at + n ≤ length (now dst) ⌝ }
+    ensures { λ _. ⌜ now (dst .exit) ≡ sets (now (dst .entry)) at (replicate n v) ⌝ }
+{
+    fill_whole(&mut dst[at..at + n], v);
+}
+
+// Zeros everywhere: what refusal 6 leaves in an output, and success in a working store.
+pub fn zero(dst: &mut [u32])
+    ensures { λ _. ⌜ now (dst .exit) ≡ zeros (now (dst .entry)) ⌝ }
+{
+    fill_whole(dst, 0);
+}
