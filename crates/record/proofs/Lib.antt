@@ -3,7 +3,8 @@ pub mod Flat
 pub mod WellFormed
 pub mod Read
 pub mod Samples
-pub mod Place
+pub mod Standing
 pub mod Sets
 pub mod One
 pub mod Outcome
+pub mod Walk

@@ -13,10 +13,10 @@ use Rattle.record.specs.Tree.{Row, Range, Forest, Encoding, listed, fore
 use Rattle.record.specs.Flat.{rowWidth, nodeWidth, rowNumbers, rangeNumbers}
 use Rattle.record.specs.WellFormed.{NodeFine, Stores, rowsIn, nodesIn, mostRows}
 use Rattle.record.specs.Read.{Reading, malformed, holds, read, sole, ofOne, isOne}
-use Rattle.record.specs.Place.{At, One}
+use Rattle.record.specs.Standing.{At, One}
 use Rattle.record.proofs.Tree.{forest-listed}
 use Rattle.record.proofs.Flat.{length-nodes, length-rows}
-use Rattle.record.proofs.Place.{at-top, at-size, at-count, at-range, at-row}
+use Rattle.record.proofs.Standing.{at-top, at-size, at-count, at-range, at-row}
 use Rattle.record.proofs.Read.{found, stored}
 
 -- ---- Reading one encoding

@@ -2,6 +2,7 @@ pub mod Tree
 pub mod Flat
 pub mod WellFormed
 pub mod Read
-pub mod Place
+pub mod Standing
 pub mod Refusals
 pub mod Outcome
+pub mod Walk

@@ -70,6 +70,14 @@ impl Column {
     pub const ATTENTION: usize = 10;
 }
 
+// The numbers of a row, of a word and of a character, each a type of its own: a word handed over as a row is an error of
+// the build. All count from 0.
+pub struct Row(pub u32);
+
+pub struct Word(pub u32);
+
+pub struct Place(pub u32);
+
 // Why an operation does not do its work, in the order of document 01's numbers.
 pub enum Refusal {
     MalformedRecord,
