@@ -12,7 +12,9 @@ use Rattle.record.specs.WellFormed.{RangeFine, RowFine, NodeFine, Fine, Fits, W
 use Rattle.record.specs.Read.{Reading, malformed, holds, read}
 use Rattle.record.proofs.Tree.{all-append}
 use Rattle.record.proofs.Flat.{length-numbers, several-at, row-stored, range-stored, length-nodes, length-rows}
+use Rattle.record.specs.Walk.{allRows}
 use Rattle.record.proofs.Read.{found, stored}
+use Rattle.record.proofs.Walk.{flat-rows, row-number}
 use Rattle.batch.specs.Built.{Good, Builds, Built, Passes}
 use Rattle.batch.specs.Fine.{RangeOk, NodeAt, NodesFine, RowAt, RowsFine}
 use Rattle.batch.specs.Answers.{shapeOf}
@@ -36,34 +38,17 @@ all-split M (x ∷ xs) ys (m, ms) = let p = all-split M xs ys ms in ((m, p .0), 
 
 -- ---- Rows
 
-allRows : Forest → List Row
-allRows none = []
-allRows (node r q w x) = r ++ (allRows w ++ allRows x)
-
-numbers-append : (s t : List Row) → flatMap rowNumbers (s ++ t) ≡ flatMap rowNumbers s ++ flatMap rowNumbers t
-unfolding flatMap
-numbers-append [] t = refl
-numbers-append (r ∷ s) t = rw (numbers-append s t, append-assoc)
-
-flat-rows : (f : Forest) → flatRows f ≡ flatMap rowNumbers (allRows f)
-unfolding flatRows flatMap allRows
-flat-rows none = refl
-flat-rows (node r q w x) = rw (flat-rows w, flat-rows x) (sym (numbers-append r (allRows w ++ allRows x) ∙ ap (flatMap rowNumbers r ++_) (numbers-append (allRows w) (allRows x))))
-
 blank : Row
 blank = record { id = 0; type-id = 0; pool = 0; text-start = 0; text-length = 0; word-mark = 0; word = 0; offset-start = 0; offset-end = 0; special = 0; attention = 0 }
-
-row-number : (ys : List Row) (i j : ℕ) → i < length ys → j < rowWidth → getD (flatMap rowNumbers ys) (i * rowWidth + j) 0 ≡ getD (rowNumbers (getD ys i blank)) j 0
-row-number ys i j h k = ap (λ (l : List ℕ). getD l (i * rowWidth + j) 0) (sym (append-nil (flatMap rowNumbers ys))) ∙ several-at row-stored ys [] i j blank h k
 
 module _ (ys : List Row) (i : ℕ) (h : i < length ys) where
   row-forth : RowAt (flatMap rowNumbers ys) (i * rowWidth) → RowFine (getD ys i blank)
   unfolding rowNumbers
-  row-forth a = rw (row-number ys i 2 h (omega arith), row-number ys i 5 h (omega arith), row-number ys i 6 h (omega arith)) at a
+  row-forth a = rw (row-number ys i 2 blank h (omega arith), row-number ys i 5 blank h (omega arith), row-number ys i 6 blank h (omega arith)) at a
 
   row-back : RowFine (getD ys i blank) → RowAt (flatMap rowNumbers ys) (i * rowWidth)
   unfolding rowNumbers
-  row-back a = rw (row-number ys i 2 h (omega arith), row-number ys i 5 h (omega arith), row-number ys i 6 h (omega arith)) a
+  row-back a = rw (row-number ys i 2 blank h (omega arith), row-number ys i 5 blank h (omega arith), row-number ys i 6 blank h (omega arith)) a
 
 rows-forth : (ys : List Row) → RowsFine (flatMap rowNumbers ys) → All RowFine ys
 rows-forth ys h = all-at RowFine blank ys (λ i l. row-forth ys i l (h i (omega (arith, length-numbers row-stored ys))))
