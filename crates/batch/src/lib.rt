@@ -121,7 +121,7 @@ fn node_ok(nodes: &[u32], i: usize) -> bool
 {
     let mut k: usize = 0;
     while k < Encoding::SEQUENCES {
-        let at = i + 2 + k * 3;
+        let at = i + Encoding::RANGES + k * Encoding::RANGE_WIDTH;
         if range_ok(nodes[i], nodes[at], nodes[at + 1], nodes[at + 2]) {
             k += 1;
         } else {

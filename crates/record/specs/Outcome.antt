@@ -3,7 +3,7 @@
 use mathlib.Core.Path.{_≡_}
 use mathlib.Core.Bool.{Bool, true, false, _&&_, cond}
 use Prim.Native.Nat.{ℕ, _*_}
-use mathlib.Core.List.{List, _++_}
+use mathlib.Core.List.{List, [], _∷_, _++_}
 use lib.Dec.{leb, eqb}
 use lib.ListN.{length, drop, replicate}
 use Rattle.record.specs.Tree.{Forest}
@@ -33,18 +33,15 @@ abbrev pub answered : Outcome → Written
 answered (refused k) = Refused k
 answered (done f) = Done (nodesIn f) (rowsIn f)
 
--- "A refusal carries only its number": document 01's number for each case, 0 where the work is done, and the two counts
+-- "A refusal carries only its number": document 01's number for each case, 0 where the work is done
 abbrev pub refusalOf : Written → ℕ
 refusalOf (Refused k) = numberOf k
 refusalOf (Done n r) = 0
 
-abbrev pub nodesOf : Written → ℕ
-nodesOf (Refused k) = 0
-nodesOf (Done n r) = n
-
-abbrev pub rowsOf : Written → ℕ
-rowsOf (Refused k) = 0
-rowsOf (Done n r) = r
+-- the nodes and rows of the result in the place of what two lent numbers were; a refusal leaves them
+abbrev pub countsOr : List ℕ → Written → List ℕ
+countsOr was (Refused k) = was
+countsOr was (Done n r) = n ∷ r ∷ []
 
 -- ---- The buffers
 

@@ -1,32 +1,29 @@
-use mathlib.Core.Path.{_≡_, refl, sym, ap, _∙_, subst}
-use mathlib.Core.Logic.{_⊎_, inl, inr, ⊎-elim}
-use mathlib.Core.Bool.{Bool, true, false}
-use Prim.Native.Nat.{ℕ, zero, suc, _+_, _-_, _*_, _≤_, _<_}
+-- `node_ok` decides whether the ranges of a node are fine: those before k are. Assumes nothing.
+use Prim.Native.Nat.{ℕ, _+_, _-_, _*_, _≤_, _<_}
 use native.Mathlib.Omega.{arith}
 use mathlib.Core.List.{List}
-use lib.ListN.{length, getD}
+use lib.ListN.{getD}
 use denote.Ref.{now}
 use borrow.Author.Count.{below-more}
-use Rattle.batch.specs.Fine.{RangeOk, NodeAt, NodesFine, RowAt, RowsFine, Decides}
 use borrow.Author.Needs.{needs}
 use Rattle.record.specs.Tree.{sequences}
+use Rattle.batch.specs.Fine.{RangeOk}
+use Rattle.batch.proofs.Decides.{decided, refuted}
 use Rattle.batch.proofs.node_ok.Statement.{statement}
 use Rattle.batch.proofs.node_ok.Tie as tie
-use Rattle.batch.proofs.node_ok.Reads as reads
-use Rattle.batch.proofs.node_ok.Lts as lts
-use Rattle.batch.proofs.range_ok.Reads as range-ok-reads
 
+-- the range of sequence k, of the node at i
 abbrev Ok : List ℕ → ℕ → ℕ → Type 0
-Ok xs i k = RangeOk (getD xs i 0) (getD xs (i + 2 + k * 3) 0) (getD xs (i + 2 + k * 3 + 1) 0) (getD xs (i + 2 + k * 3 + 2) 0)
+Ok nodes i k = RangeOk (getD nodes i 0) (getD nodes (i + 2 + k * 3) 0) (getD nodes (i + 2 + k * 3 + 1) 0) (getD nodes (i + 2 + k * 3 + 2) 0)
 
 abbrev Inv-loop : tie.InvT-loop
-Inv-loop xs i k₀ k = (k ≤ sequences) × ((j : ℕ) → j < k → Ok xs i j)
+Inv-loop nodes i k₀ k = (k ≤ sequences) × ((m : ℕ) → m < k → Ok nodes i m)
 
 abbrev μ-loop : tie.MeasureT-loop
-μ-loop xs i k₀ k = sequences - k
+μ-loop nodes i k₀ k = sequences - k
 
 loop-holds : tie.Need-loop-holds Inv-loop μ-loop
-loop-holds c = (omega arith, λ j h. absurd (omega arith))
+loop-holds c = (omega arith, λ m h. absurd (omega arith))
 
 add-at : tie.Need-add-at Inv-loop μ-loop
 add-at c = search needs
@@ -77,13 +74,19 @@ loop-less : tie.Need-loop-less Inv-loop μ-loop
 loop-less c = search needs
 
 loop-again : tie.Need-loop-again Inv-loop μ-loop
-loop-again c = (omega arith, below-more _ _ (c .before .before .before .before .before .before .before .loop .inv .1) (subst (λ (b : Bool). Decides b (Ok (now (c .before .before .before .before .before .before .before .before .before .args .nodes)) (c .before .before .before .before .before .before .before .before .before .args .i) (c .before .before .before .before .before .before .before .loop .k))) (c .if1 .taken) (c .before .range-ok .ensures)))
+loop-again c =
+    let l = c .before .before .before .before .before .before .before in
+    let v = l .before .before .args in
+    (omega arith, below-more _ _ (l .loop .inv .1) (decided (c .before .range-ok .result) (Ok (now (v .nodes)) (v .i) (l .loop .k)) (c .if1 .taken) (c .before .range-ok .ensures)))
 
 returns : tie.Need-returns Inv-loop μ-loop
-returns c = λ all. subst (λ (b : Bool). Decides b (Ok (now (c .before .before .before .before .before .before .before .before .before .args .nodes)) (c .before .before .before .before .before .before .before .before .before .args .i) (c .before .before .before .before .before .before .before .loop .k))) (c .if1 .left) (c .before .range-ok .ensures) (all (c .before .before .before .before .before .before .before .loop .k) (c .before .before .before .before .before .before .loop-test .taken))
+returns c all =
+    let l = c .before .before .before .before .before .before .before in
+    let v = l .before .before .args in
+    refuted (c .before .range-ok .result) (Ok (now (v .nodes)) (v .i) (l .loop .k)) (c .if1 .left) (c .before .range-ok .ensures) (all (l .loop .k) (omega arith))
 
 returns-2 : tie.Need-returns-2 Inv-loop μ-loop
-returns-2 c = λ j h. c .before .loop .inv .1 j (omega arith)
+returns-2 c m h = c .before .loop .inv .1 m (omega arith)
 
 pub node-ok-spec : {M : Type 1} → statement M
 node-ok-spec =

@@ -1,29 +1,25 @@
-use mathlib.Core.Path.{_≡_, refl, sym, ap, _∙_, subst}
-use mathlib.Core.Logic.{_⊎_, inl, inr, ⊎-elim}
-use mathlib.Core.Bool.{Bool, true, false}
-use Prim.Native.Nat.{ℕ, zero, suc, _+_, _-_, _*_, _≤_, _<_}
+-- `rows_ok` decides whether the marks of every whole row are fine: those of the rows before i are. Assumes nothing.
+use mathlib.Core.Path.{_≡_, refl, sym, subst}
+use Prim.Native.Nat.{ℕ, _-_, _*_, _≤_, _<_}
 use native.Mathlib.Omega.{arith}
-use mathlib.Core.List.{List}
-use lib.ListN.{length, getD}
+use lib.ListN.{length}
 use denote.Ref.{now}
 use borrow.Author.Count.{below-more}
-use Rattle.batch.specs.Fine.{RangeOk, NodeAt, NodesFine, RowAt, RowsFine, Decides}
 use borrow.Author.Needs.{needs}
 use Rattle.record.specs.Flat.{rowWidth}
+use Rattle.batch.specs.Fine.{RowAt}
+use Rattle.batch.proofs.Decides.{decided, refuted}
 use Rattle.batch.proofs.rows_ok.Statement.{statement}
 use Rattle.batch.proofs.rows_ok.Tie as tie
-use Rattle.batch.proofs.rows_ok.Reads as reads
-use Rattle.batch.proofs.rows_ok.Lts as lts
-use Rattle.batch.proofs.row_ok.Reads as row-ok-reads
 
 abbrev Inv-loop : tie.InvT-loop
-Inv-loop rs i₀ at₀ i at = (at ≤ length rs) × (at ≡ i * rowWidth) × ((j : ℕ) → j < i → RowAt rs (j * rowWidth))
+Inv-loop rows i₀ at₀ i at = (at ≤ length rows) × (at ≡ i * rowWidth) × ((k : ℕ) → k < i → RowAt rows (k * rowWidth))
 
 abbrev μ-loop : tie.MeasureT-loop
-μ-loop rs i₀ at₀ i at = length rs - at
+μ-loop rows i₀ at₀ i at = length rows - at
 
 loop-holds : tie.Need-loop-holds Inv-loop μ-loop
-loop-holds c = (omega arith, refl, λ j h. absurd (omega arith))
+loop-holds c = (omega arith, refl, λ k h. absurd (omega arith))
 
 sub-loop : tie.Need-sub-loop Inv-loop μ-loop
 sub-loop c = search needs
@@ -69,16 +65,20 @@ loop-less c = search needs
 
 loop-again : tie.Need-loop-again Inv-loop μ-loop
 loop-again c =
-    let h = subst (λ (b : Bool). Decides b (RowAt (now (c .before .before .before .before .before .before .before .before .args .rows)) (c .before .before .before .before .before .before .loop .at))) (c .if1 .taken) (c .before .row-ok .ensures) in
-    (omega arith, omega arith, below-more _ _ (c .before .before .before .before .before .before .loop .inv .2) (subst (λ (k : ℕ). RowAt (now (c .before .before .before .before .before .before .before .before .args .rows)) k) (c .before .before .before .before .before .before .loop .inv .1) h))
+    let l = c .before .before .before .before .before .before in
+    let rows = now (l .before .before .args .rows) in
+    let h = decided (c .before .row-ok .result) (RowAt rows (l .loop .at)) (c .if1 .taken) (c .before .row-ok .ensures) in
+    (omega arith, omega arith, below-more _ _ (l .loop .inv .2) (subst (RowAt rows) (l .loop .inv .1) h))
 
 returns : tie.Need-returns Inv-loop μ-loop
-returns c = λ all.
-    subst (λ (b : Bool). Decides b (RowAt (now (c .before .before .before .before .before .before .before .before .args .rows)) (c .before .before .before .before .before .before .loop .at))) (c .if1 .left) (c .before .row-ok .ensures)
-    (subst (λ (k : ℕ). RowAt (now (c .before .before .before .before .before .before .before .before .args .rows)) k) (sym (c .before .before .before .before .before .before .loop .inv .1)) (all (c .before .before .before .before .before .before .loop .i) (omega (arith, c .before .before .before .before .before .before .loop .inv .1, c .before .before .before .before .before .loop-test .taken))))
+returns c all =
+    let l = c .before .before .before .before .before .before in
+    let rows = now (l .before .before .args .rows) in
+    refuted (c .before .row-ok .result) (RowAt rows (l .loop .at)) (c .if1 .left) (c .before .row-ok .ensures)
+    (subst (RowAt rows) (sym (l .loop .inv .1)) (all (l .loop .i) (omega arith)))
 
 returns-2 : tie.Need-returns-2 Inv-loop μ-loop
-returns-2 c = λ j h. c .before .loop .inv .2 j (omega (arith, c .before .loop .inv .1, c .loop-test .left))
+returns-2 c k h = c .before .loop .inv .2 k (omega arith)
 
 pub rows-ok-spec : {M : Type 1} → statement M
 rows-ok-spec =
