@@ -1,0 +1,4 @@
+mod Digits
+mod Reading
+pub mod Moves
+mod Samples
