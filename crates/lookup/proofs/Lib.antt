@@ -1,0 +1,10 @@
+pub mod Stored
+pub mod Parts
+pub mod Search
+pub mod Words
+pub mod Holding
+pub mod Answered
+pub mod CharLaws
+pub mod WordLaws
+pub mod TokenLaws
+pub mod Tops

@@ -1,0 +1,3 @@
+pub mod Lookup
+pub mod Answers
+pub mod Lent
