@@ -1,0 +1,5 @@
+pub mod Join
+pub mod Alike
+pub mod Offsets
+pub mod Outcomes
+pub mod Samples
