@@ -1,0 +1,3 @@
+pub mod Opened
+pub mod Folded
+pub mod Lent

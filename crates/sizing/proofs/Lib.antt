@@ -1,0 +1,5 @@
+pub mod Numbers
+pub mod Passes
+pub mod Profiles
+pub mod Limits
+pub mod Samples
