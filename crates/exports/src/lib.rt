@@ -1,10 +1,35 @@
 // The C interface. Each function returns the number of its refusal, 0 for none, and gives its values through lent
 // numbers, which a refusal leaves as they were. include/noddrefyr.h is made from this file.
 ghost use mathlib.Core.Path.{_≡_};
-ghost use Rattle.record.specs.Read.{read};
+ghost use lib.ListN.{length};
+ghost use Rattle.record.specs.Read.{read, ofOne};
+ghost use Rattle.record.specs.declared.Refusal.the-variants.{MalformedRecord};
 ghost use Rattle.batch.specs.Answers.{shapeOf, refusalOf, encodingsOr};
+ghost use Rattle.making.specs.Making.{fromTokens, setSequenceId};
+ghost use Rattle.sequences.specs.Answers.{rangeAnswer, countAnswer, sequenceAnswer, columnAnswer, columnLeft, sequenceIds};
+ghost use Rattle.lookup.specs.Lookup.{wordToTokens, wordToChars, charToToken, tokenToChars, tokenToWord, charToWord};
+ghost use Rattle.lookup.specs.Answers.{tokensAnswer, charsAnswer, tokenAnswer, tokenCharsAnswer, tokenWordAnswer, wordAnswer};
+ghost use Rattle.text.specs.RowText.{textAnswer};
+ghost use Rattle.text.specs.NodeSpan.{spanAnswer};
+ghost use Rattle.exports.specs.Crossing.{Crosses, WritesOut, rangeCrossed, countCrossed, sequenceCrossed, columnCrossed, tokensCrossed, charsCrossed, tokenCrossed, tokenCharsCrossed, tokenWordCrossed, wordCrossed, textCrossed, spanCrossed};
 use batch::Shape;
+use lookup::CharsAnswer;
+use lookup::TokenAnswer;
+use lookup::TokenCharsAnswer;
+use lookup::TokenWordAnswer;
+use lookup::TokensAnswer;
+use lookup::WordAnswer;
+use record::Place;
 use record::Refusal;
+use record::Row;
+use record::Word;
+use record::Written;
+use sequences::ColumnAnswer;
+use sequences::CountAnswer;
+use sequences::RangeAnswer;
+use sequences::SequenceAnswer;
+use text::SpanAnswer;
+use text::TextAnswer;
 
 // Whether two slices are a well-formed batch (else 1), and the number of its encodings at the top.
 #[no_mangle]
@@ -17,6 +42,339 @@ pub extern "C" fn noddrefyr_check_batch(nodes: &[u32], rows: &[u32], encodings: 
         Shape::Malformed => Refusal::MalformedRecord.number(),
         Shape::Encodings(n) => {
             *encodings = n;
+            0
+        }
+    }
+}
+
+// The encoding of tokens of 5 numbers each (id, text start, text length, offset start, offset end), written to the output;
+// written is its nodes and its rows. Refused with 1 (no whole tokens), 2.
+#[no_mangle]
+pub extern "C" fn noddrefyr_from_tokens(
+    tokens: &[u32],
+    type_id: u32,
+    out_nodes: &mut [u32],
+    out_rows: &mut [u32],
+    written: &mut [usize; 2],
+) -> u32
+    ensures { λ r. ⌜ WritesOut (fromTokens (now (tokens .entry)) «type_id» (now («out_nodes» .entry)) (now («out_rows» .entry))) r (now (written .entry)) (now (written .exit)) (now («out_nodes» .entry)) (now («out_rows» .entry)) (now («out_nodes» .exit)) (now («out_rows» .exit)) ⌝ }
+{
+    let answer = making::from_tokens(tokens, type_id, out_nodes, out_rows);
+    match answer {
+        Written::Refused(k) => k.number(),
+        Written::Done { nodes, rows } => {
+            *written = [nodes, rows];
+            0
+        }
+    }
+}
+
+// One encoding with the range of a sequence set to all its rows, written to the output; written is its nodes and its rows.
+// Refused with 1, 13, 2.
+#[no_mangle]
+pub extern "C" fn noddrefyr_set_sequence_id(
+    nodes: &[u32],
+    rows: &[u32],
+    sequence_id: u32,
+    out_nodes: &mut [u32],
+    out_rows: &mut [u32],
+    written: &mut [usize; 2],
+) -> u32
+    ensures { λ r. ⌜ WritesOut (setSequenceId (read (now (nodes .entry)) (now (rows .entry))) «sequence_id» (now («out_nodes» .entry)) (now («out_rows» .entry))) r (now (written .entry)) (now (written .exit)) (now («out_nodes» .entry)) (now («out_rows» .entry)) (now («out_nodes» .exit)) (now («out_rows» .exit)) ⌝ }
+{
+    let answer = making::set_sequence_id(nodes, rows, sequence_id, out_nodes, out_rows);
+    match answer {
+        Written::Refused(k) => k.number(),
+        Written::Done { nodes: n, rows: r } => {
+            *written = [n, r];
+            0
+        }
+    }
+}
+
+// The rows of a sequence of one encoding: start, end (not included). Refused with 1.
+#[no_mangle]
+pub extern "C" fn noddrefyr_sequence_range(
+    nodes: &[u32],
+    rows: &[u32],
+    sequence_id: u32,
+    answer: &mut [u32; 2],
+) -> u32
+    ensures { λ r. ⌜ Crosses (rangeCrossed (now (answer .entry)) (rangeAnswer (read (now (nodes .entry)) (now (rows .entry))) «sequence_id»)) r (now (answer .exit)) ⌝ }
+{
+    let found = sequences::sequence_range(nodes, rows, sequence_id);
+    match found {
+        RangeAnswer::Refused(k) => k.number(),
+        RangeAnswer::Rows(bounds) => {
+            *answer = [bounds.start, bounds.end];
+            0
+        }
+    }
+}
+
+// The number of sequences of one encoding. Refused with 1.
+#[no_mangle]
+pub extern "C" fn noddrefyr_n_sequences(nodes: &[u32], rows: &[u32], answer: &mut [u32; 1]) -> u32
+    ensures { λ r. ⌜ Crosses (countCrossed (now (answer .entry)) (countAnswer (read (now (nodes .entry)) (now (rows .entry))))) r (now (answer .exit)) ⌝ }
+{
+    let found = sequences::n_sequences(nodes, rows);
+    match found {
+        CountAnswer::Refused(k) => k.number(),
+        CountAnswer::Count(n) => {
+            *answer = [n];
+            0
+        }
+    }
+}
+
+// The sequence that a row of one encoding is in: found or not, sequence. Refused with 1.
+#[no_mangle]
+pub extern "C" fn noddrefyr_token_to_sequence(
+    nodes: &[u32],
+    rows: &[u32],
+    token: u32,
+    answer: &mut [u32; 2],
+) -> u32
+    ensures { λ r. ⌜ Crosses (sequenceCrossed (now (answer .entry)) (sequenceAnswer (read (now (nodes .entry)) (now (rows .entry))) token)) r (now (answer .exit)) ⌝ }
+{
+    let found = sequences::token_to_sequence(nodes, rows, Row(token));
+    match found {
+        SequenceAnswer::Refused(k) => k.number(),
+        SequenceAnswer::Nothing => {
+            *answer = [0, 0];
+            0
+        }
+        SequenceAnswer::Found(sequence) => {
+            *answer = [1, sequence];
+            0
+        }
+    }
+}
+
+// The mark and the sequence of each row of one encoding, written to out; written is the number of rows. Refused with 1, 2.
+#[no_mangle]
+pub extern "C" fn noddrefyr_get_sequence_ids(
+    nodes: &[u32],
+    rows: &[u32],
+    out: &mut [u32],
+    written: &mut [usize; 1],
+) -> u32
+    ensures answer { λ r. ⌜ Crosses (columnCrossed (now (written .entry)) (columnAnswer (sequenceIds (read (now (nodes .entry)) (now (rows .entry))) (length (now (out .entry)))))) r (now (written .exit)) ⌝ }
+    ensures left { λ _. ⌜ now (out .exit) ≡ columnLeft (sequenceIds (read (now (nodes .entry)) (now (rows .entry))) (length (now (out .entry)))) (now (out .entry)) ⌝ }
+{
+    let found = sequences::get_sequence_ids(nodes, rows, out);
+    match found {
+        ColumnAnswer::Refused(k) => k.number(),
+        ColumnAnswer::Done(n) => {
+            *written = [n];
+            0
+        }
+    }
+}
+
+// The rows of a word in a sequence of one encoding: found or not, start, end (not included). Refused with 1.
+#[no_mangle]
+pub extern "C" fn noddrefyr_word_to_tokens(
+    nodes: &[u32],
+    rows: &[u32],
+    word: u32,
+    sequence_id: u32,
+    answer: &mut [u32; 3],
+) -> u32
+    ensures { λ r. ⌜ Crosses (tokensCrossed (now (answer .entry)) (ofOne (TokensAnswer.Refused MalformedRecord) (λ E. tokensAnswer (wordToTokens E word «sequence_id»)) (read (now (nodes .entry)) (now (rows .entry))))) r (now (answer .exit)) ⌝ }
+{
+    let found = lookup::word_to_tokens(nodes, rows, Word(word), sequence_id);
+    match found {
+        TokensAnswer::Refused(k) => k.number(),
+        TokensAnswer::Nothing => {
+            *answer = [0, 0, 0];
+            0
+        }
+        TokensAnswer::Found { start, end } => {
+            *answer = [1, start.0, end.0];
+            0
+        }
+    }
+}
+
+// The characters of a word in a sequence of one encoding: found or not, start, end. Refused with 1.
+#[no_mangle]
+pub extern "C" fn noddrefyr_word_to_chars(
+    nodes: &[u32],
+    rows: &[u32],
+    word: u32,
+    sequence_id: u32,
+    answer: &mut [u32; 3],
+) -> u32
+    ensures { λ r. ⌜ Crosses (charsCrossed (now (answer .entry)) (ofOne (CharsAnswer.Refused MalformedRecord) (λ E. charsAnswer (wordToChars E word «sequence_id»)) (read (now (nodes .entry)) (now (rows .entry))))) r (now (answer .exit)) ⌝ }
+{
+    let found = lookup::word_to_chars(nodes, rows, Word(word), sequence_id);
+    match found {
+        CharsAnswer::Refused(k) => k.number(),
+        CharsAnswer::Nothing => {
+            *answer = [0, 0, 0];
+            0
+        }
+        CharsAnswer::Found { start, end } => {
+            *answer = [1, start.0, end.0];
+            0
+        }
+    }
+}
+
+// The row that holds a character, in a sequence of one encoding: found or not, row. Refused with 1.
+#[no_mangle]
+pub extern "C" fn noddrefyr_char_to_token(
+    nodes: &[u32],
+    rows: &[u32],
+    place: u32,
+    sequence_id: u32,
+    answer: &mut [u32; 2],
+) -> u32
+    ensures { λ r. ⌜ Crosses (tokenCrossed (now (answer .entry)) (ofOne (TokenAnswer.Refused MalformedRecord) (λ E. tokenAnswer (charToToken E place «sequence_id»)) (read (now (nodes .entry)) (now (rows .entry))))) r (now (answer .exit)) ⌝ }
+{
+    let found = lookup::char_to_token(nodes, rows, Place(place), sequence_id);
+    match found {
+        TokenAnswer::Refused(k) => k.number(),
+        TokenAnswer::Nothing => {
+            *answer = [0, 0];
+            0
+        }
+        TokenAnswer::Found(row) => {
+            *answer = [1, row.0];
+            0
+        }
+    }
+}
+
+// The sequence and the characters of a row of one encoding: found or not, sequence, start, end. Refused with 1.
+#[no_mangle]
+pub extern "C" fn noddrefyr_token_to_chars(
+    nodes: &[u32],
+    rows: &[u32],
+    token: u32,
+    answer: &mut [u32; 4],
+) -> u32
+    ensures { λ r. ⌜ Crosses (tokenCharsCrossed (now (answer .entry)) (ofOne (TokenCharsAnswer.Refused MalformedRecord) (λ E. tokenCharsAnswer (tokenToChars E token)) (read (now (nodes .entry)) (now (rows .entry))))) r (now (answer .exit)) ⌝ }
+{
+    let found = lookup::token_to_chars(nodes, rows, Row(token));
+    match found {
+        TokenCharsAnswer::Refused(k) => k.number(),
+        TokenCharsAnswer::Nothing => {
+            *answer = [0, 0, 0, 0];
+            0
+        }
+        TokenCharsAnswer::Found {
+            sequence,
+            start,
+            end,
+        } => {
+            *answer = [1, sequence, start.0, end.0];
+            0
+        }
+    }
+}
+
+// The sequence and the word of a row of one encoding: found or not, sequence, word. Refused with 1.
+#[no_mangle]
+pub extern "C" fn noddrefyr_token_to_word(
+    nodes: &[u32],
+    rows: &[u32],
+    token: u32,
+    answer: &mut [u32; 3],
+) -> u32
+    ensures { λ r. ⌜ Crosses (tokenWordCrossed (now (answer .entry)) (ofOne (TokenWordAnswer.Refused MalformedRecord) (λ E. tokenWordAnswer (tokenToWord E token)) (read (now (nodes .entry)) (now (rows .entry))))) r (now (answer .exit)) ⌝ }
+{
+    let found = lookup::token_to_word(nodes, rows, Row(token));
+    match found {
+        TokenWordAnswer::Refused(k) => k.number(),
+        TokenWordAnswer::Nothing => {
+            *answer = [0, 0, 0];
+            0
+        }
+        TokenWordAnswer::Found { sequence, word } => {
+            *answer = [1, sequence, word.0];
+            0
+        }
+    }
+}
+
+// The word that holds a character, in a sequence of one encoding: found or not, word. Refused with 1.
+#[no_mangle]
+pub extern "C" fn noddrefyr_char_to_word(
+    nodes: &[u32],
+    rows: &[u32],
+    place: u32,
+    sequence_id: u32,
+    answer: &mut [u32; 2],
+) -> u32
+    ensures { λ r. ⌜ Crosses (wordCrossed (now (answer .entry)) (ofOne (WordAnswer.Refused MalformedRecord) (λ E. wordAnswer (charToWord E place «sequence_id»)) (read (now (nodes .entry)) (now (rows .entry))))) r (now (answer .exit)) ⌝ }
+{
+    let found = lookup::char_to_word(nodes, rows, Place(place), sequence_id);
+    match found {
+        WordAnswer::Refused(k) => k.number(),
+        WordAnswer::Nothing => {
+            *answer = [0, 0];
+            0
+        }
+        WordAnswer::Found(word) => {
+            *answer = [1, word.0];
+            0
+        }
+    }
+}
+
+// Where the text of a row lies, numbered through the whole batch: found or not, pool (0 tokens, 1 added), start, length.
+// Refused with 1, 14.
+#[no_mangle]
+pub extern "C" fn noddrefyr_text(
+    nodes: &[u32],
+    rows: &[u32],
+    row: u32,
+    tokens: &[u8],
+    added: &[u8],
+    answer: &mut [u32; 4],
+) -> u32
+    ensures { λ r. ⌜ Crosses (textCrossed (now (answer .entry)) (textAnswer (read (now (nodes .entry)) (now (rows .entry))) row (now (tokens .entry)) (now (added .entry)))) r (now (answer .exit)) ⌝ }
+{
+    let found = text::text(nodes, rows, Row(row), tokens, added);
+    match found {
+        TextAnswer::Refused(k) => k.number(),
+        TextAnswer::Nothing => {
+            *answer = [0, 0, 0, 0];
+            0
+        }
+        TextAnswer::Found {
+            pool,
+            start,
+            length,
+        } => {
+            *answer = [1, pool, start, length];
+            0
+        }
+    }
+}
+
+// The first offset start and the last offset end of a node, numbered through the whole batch: found or not, start, end.
+// Refused with 1.
+#[no_mangle]
+pub extern "C" fn noddrefyr_span(
+    nodes: &[u32],
+    rows: &[u32],
+    node: u32,
+    answer: &mut [u32; 3],
+) -> u32
+    ensures { λ r. ⌜ Crosses (spanCrossed (now (answer .entry)) (spanAnswer (read (now (nodes .entry)) (now (rows .entry))) node)) r (now (answer .exit)) ⌝ }
+{
+    let found = text::span(nodes, rows, node);
+    match found {
+        SpanAnswer::Refused(k) => k.number(),
+        SpanAnswer::Nothing => {
+            *answer = [0, 0, 0];
+            0
+        }
+        SpanAnswer::Found { start, end } => {
+            *answer = [1, start.0, end.0];
             0
         }
     }

@@ -1,0 +1,142 @@
+/* The C interface of noddrefyr: encodings of tokens, their windows, truncation, padding, joining and templates,
+   proved. Made by `compare/run header` from crates/exports/src/lib.rt; link target/staticlib/libexports.a, which
+   `rt staticlib exports` writes.
+
+   A batch is lent as two slices of uint32_t, nodes and rows, each as a pointer and its length in numbers (README.md
+   draws them): a node is 26 numbers, a row 11. The library keeps no pointer, allocates nothing, and takes any
+   numbers whatever; it needs only that each pointer is valid for its length, not null even where the length is 0,
+   and that what it may write overlaps nothing else that it is lent.
+
+   Each function returns 0, or the number of the refusal (docs/OPERATIONS.md), unless its comment says otherwise. */
+#ifndef NODDREFYR_H
+#define NODDREFYR_H
+
+#include <stdbool.h>
+#include <stddef.h>
+#include <stdint.h>
+
+#ifdef __cplusplus
+extern "C" {
+#endif
+
+/* Whether two slices are a well-formed batch (else 1), and the number of its encodings at the top. */
+uint32_t noddrefyr_check_batch(
+    const uint32_t *nodes, size_t nodes_len,
+    const uint32_t *rows, size_t rows_len,
+    size_t *encodings);
+
+/* The encoding of tokens of 5 numbers each (id, text start, text length, offset start, offset end), written to the output;
+   written is its nodes and its rows. Refused with 1 (no whole tokens), 2. */
+uint32_t noddrefyr_from_tokens(
+    const uint32_t *tokens, size_t tokens_len,
+    uint32_t type_id,
+    uint32_t *out_nodes, size_t out_nodes_len,
+    uint32_t *out_rows, size_t out_rows_len,
+    size_t written[2]);
+
+/* One encoding with the range of a sequence set to all its rows, written to the output; written is its nodes and its rows.
+   Refused with 1, 13, 2. */
+uint32_t noddrefyr_set_sequence_id(
+    const uint32_t *nodes, size_t nodes_len,
+    const uint32_t *rows, size_t rows_len,
+    uint32_t sequence_id,
+    uint32_t *out_nodes, size_t out_nodes_len,
+    uint32_t *out_rows, size_t out_rows_len,
+    size_t written[2]);
+
+/* The rows of a sequence of one encoding: start, end (not included). Refused with 1. */
+uint32_t noddrefyr_sequence_range(
+    const uint32_t *nodes, size_t nodes_len,
+    const uint32_t *rows, size_t rows_len,
+    uint32_t sequence_id,
+    uint32_t answer[2]);
+
+/* The number of sequences of one encoding. Refused with 1. */
+uint32_t noddrefyr_n_sequences(
+    const uint32_t *nodes, size_t nodes_len,
+    const uint32_t *rows, size_t rows_len,
+    uint32_t answer[1]);
+
+/* The sequence that a row of one encoding is in: found or not, sequence. Refused with 1. */
+uint32_t noddrefyr_token_to_sequence(
+    const uint32_t *nodes, size_t nodes_len,
+    const uint32_t *rows, size_t rows_len,
+    uint32_t token,
+    uint32_t answer[2]);
+
+/* The mark and the sequence of each row of one encoding, written to out; written is the number of rows. Refused with 1, 2. */
+uint32_t noddrefyr_get_sequence_ids(
+    const uint32_t *nodes, size_t nodes_len,
+    const uint32_t *rows, size_t rows_len,
+    uint32_t *out, size_t out_len,
+    size_t written[1]);
+
+/* The rows of a word in a sequence of one encoding: found or not, start, end (not included). Refused with 1. */
+uint32_t noddrefyr_word_to_tokens(
+    const uint32_t *nodes, size_t nodes_len,
+    const uint32_t *rows, size_t rows_len,
+    uint32_t word,
+    uint32_t sequence_id,
+    uint32_t answer[3]);
+
+/* The characters of a word in a sequence of one encoding: found or not, start, end. Refused with 1. */
+uint32_t noddrefyr_word_to_chars(
+    const uint32_t *nodes, size_t nodes_len,
+    const uint32_t *rows, size_t rows_len,
+    uint32_t word,
+    uint32_t sequence_id,
+    uint32_t answer[3]);
+
+/* The row that holds a character, in a sequence of one encoding: found or not, row. Refused with 1. */
+uint32_t noddrefyr_char_to_token(
+    const uint32_t *nodes, size_t nodes_len,
+    const uint32_t *rows, size_t rows_len,
+    uint32_t place,
+    uint32_t sequence_id,
+    uint32_t answer[2]);
+
+/* The sequence and the characters of a row of one encoding: found or not, sequence, start, end. Refused with 1. */
+uint32_t noddrefyr_token_to_chars(
+    const uint32_t *nodes, size_t nodes_len,
+    const uint32_t *rows, size_t rows_len,
+    uint32_t token,
+    uint32_t answer[4]);
+
+/* The sequence and the word of a row of one encoding: found or not, sequence, word. Refused with 1. */
+uint32_t noddrefyr_token_to_word(
+    const uint32_t *nodes, size_t nodes_len,
+    const uint32_t *rows, size_t rows_len,
+    uint32_t token,
+    uint32_t answer[3]);
+
+/* The word that holds a character, in a sequence of one encoding: found or not, word. Refused with 1. */
+uint32_t noddrefyr_char_to_word(
+    const uint32_t *nodes, size_t nodes_len,
+    const uint32_t *rows, size_t rows_len,
+    uint32_t place,
+    uint32_t sequence_id,
+    uint32_t answer[2]);
+
+/* Where the text of a row lies, numbered through the whole batch: found or not, pool (0 tokens, 1 added), start, length.
+   Refused with 1, 14. */
+uint32_t noddrefyr_text(
+    const uint32_t *nodes, size_t nodes_len,
+    const uint32_t *rows, size_t rows_len,
+    uint32_t row,
+    const uint8_t *tokens, size_t tokens_len,
+    const uint8_t *added, size_t added_len,
+    uint32_t answer[4]);
+
+/* The first offset start and the last offset end of a node, numbered through the whole batch: found or not, start, end.
+   Refused with 1. */
+uint32_t noddrefyr_span(
+    const uint32_t *nodes, size_t nodes_len,
+    const uint32_t *rows, size_t rows_len,
+    uint32_t node,
+    uint32_t answer[3]);
+
+#ifdef __cplusplus
+}
+#endif
+
+#endif
