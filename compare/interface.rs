@@ -1,0 +1,188 @@
+//! The exported functions of a Rattle source, as Rust declarations and as a C header.
+
+pub struct Function {
+    /// the comment lines directly above it, without their `//`
+    doc: Vec<String>,
+    name: String,
+    parameters: Vec<(String, Type)>,
+    result: Option<Type>,
+}
+
+/// A type that crosses the interface: a number, a lent number, a lent array (a pointer to its first number), or a lent
+/// slice (a pointer and then a length).
+struct Type {
+    number: &'static Number,
+    shape: Shape,
+    mutable: bool,
+}
+
+#[derive(PartialEq)]
+enum Shape {
+    Value,
+    Reference,
+    Array(usize),
+    Slice,
+}
+
+struct Number {
+    rust: &'static str,
+    c: &'static str,
+}
+
+const NUMBERS: [Number; 5] = [
+    Number { rust: "u8", c: "uint8_t" },
+    Number { rust: "u32", c: "uint32_t" },
+    Number { rust: "u64", c: "uint64_t" },
+    Number { rust: "usize", c: "size_t" },
+    Number { rust: "bool", c: "bool" },
+];
+
+fn read_type(text: &str) -> Result<Type, String> {
+    let text = text.trim();
+    let (lent, mutable, inner) = match (text.strip_prefix("&mut "), text.strip_prefix('&')) {
+        (Some(inner), _) => (true, true, inner.trim()),
+        (None, Some(inner)) => (true, false, inner.trim()),
+        (None, None) => (false, false, text),
+    };
+    let elements = inner.strip_prefix('[').and_then(|t| t.strip_suffix(']'));
+    let (element, length) = match elements.and_then(|t| t.split_once(';')) {
+        Some((element, n)) => (Some(element), Some(n.trim().parse().map_err(|_| format!("not a length: {text}"))?)),
+        None => (elements, None),
+    };
+    let shape = match (lent, element, length) {
+        (false, None, _) => Shape::Value,
+        (true, None, _) => Shape::Reference,
+        (true, Some(_), None) => Shape::Slice,
+        (true, Some(_), Some(n)) => Shape::Array(n),
+        (false, Some(_), _) => return Err(format!("an array cannot cross by value: {text}")),
+    };
+    let word = element.unwrap_or(inner).trim();
+    let number = NUMBERS.iter().find(|n| n.rust == word).ok_or(format!("a type that is not known here: {text}"))?;
+    Ok(Type { number, shape, mutable })
+}
+
+fn read_parameters(text: &str) -> Result<Vec<(String, Type)>, String> {
+    let one = |p: &str| {
+        let (name, t) = p.split_once(':').ok_or(format!("not a parameter: {p}"))?;
+        Ok((name.trim().trim_start_matches("mut ").to_string(), read_type(t)?))
+    };
+    text.split(',').filter(|p| !p.trim().is_empty()).map(one).collect()
+}
+
+/// The function whose signature begins at the front of `text`, after `fn`.
+fn read_signature(doc: Vec<String>, text: &str) -> Result<Function, String> {
+    let (name, rest) = text.split_once('(').ok_or("a signature without parameters")?;
+    let name = name.trim().to_string();
+    let (parameters, rest) = rest.split_once(')').ok_or(format!("{name}: parameters without an end"))?;
+    // What follows is the result, a contract clause or the body.
+    let result = match rest.trim_start().strip_prefix("->") {
+        Some(t) => Some(read_type(t.split_whitespace().next().unwrap_or("").trim_end_matches('{'))?),
+        None => None,
+    };
+    if result.as_ref().is_some_and(|t| t.shape != Shape::Value) {
+        return Err(format!("{name}: a result must be a number"));
+    }
+    let parameters = read_parameters(parameters).map_err(|e| format!("{name}: {e}"))?;
+    Ok(Function { doc, name, parameters, result })
+}
+
+/// Every `#[no_mangle] pub extern "C" fn` of the source, in its order.
+pub fn read(source: &str) -> Result<Vec<Function>, String> {
+    const HEAD: &str = "pub extern \"C\" fn ";
+    let lines: Vec<&str> = source.lines().map(str::trim).collect();
+    let mut functions = vec![];
+    for (i, line) in lines.iter().enumerate().filter(|(_, l)| !l.starts_with("//")) {
+        let Some((before, _)) = line.split_once(HEAD) else { continue };
+        let attributes = lines[..i].iter().rev().take_while(|l| l.starts_with("#[")).count();
+        let marked = before.contains("#[no_mangle]") || lines[i - attributes..i].contains(&"#[no_mangle]");
+        if !marked {
+            return Err(format!("line {}: an exported function without #[no_mangle]", i + 1));
+        }
+        let above = lines[..i - attributes].iter().rev().take_while(|l| l.starts_with("//"));
+        let mut doc: Vec<String> = above.map(|l| l.trim_start_matches('/').trim_start().to_string()).collect();
+        doc.reverse();
+        let text: String = lines[i..].iter().map(|l| format!("{}\n", l.split("//").next().unwrap())).collect();
+        let signature = text.split_once(HEAD).unwrap().1;
+        functions.push(read_signature(doc, signature).map_err(|e| format!("line {}: {e}", i + 1))?);
+    }
+    let marks = lines.iter().filter(|l| l.starts_with("#[no_mangle]")).count();
+    if marks != functions.len() {
+        return Err(format!("{marks} functions marked #[no_mangle], {} understood", functions.len()));
+    }
+    Ok(functions)
+}
+
+fn rust_parameter((name, t): &(String, Type)) -> String {
+    let pointer = if t.mutable { "*mut" } else { "*const" };
+    match t.shape {
+        Shape::Value => format!("{name}: {}", t.number.rust),
+        Shape::Reference | Shape::Array(_) => format!("{name}: {pointer} {}", t.number.rust),
+        Shape::Slice => format!("{name}: {pointer} {}, {name}_len: usize", t.number.rust),
+    }
+}
+
+/// The declarations for Rust.
+pub fn bindings(functions: &[Function]) -> String {
+    let mut out = String::from("extern \"C\" {\n");
+    for f in functions {
+        let parameters: Vec<String> = f.parameters.iter().map(rust_parameter).collect();
+        let result = f.result.as_ref().map_or(String::new(), |t| format!(" -> {}", t.number.rust));
+        out += &format!("    pub fn {}({}){result};\n", f.name, parameters.join(", "));
+    }
+    out + "}\n"
+}
+
+fn c_parameter((name, t): &(String, Type)) -> String {
+    let constant = if t.mutable { "" } else { "const " };
+    match t.shape {
+        Shape::Value => format!("{} {name}", t.number.c),
+        Shape::Reference => format!("{constant}{} *{name}", t.number.c),
+        Shape::Array(n) => format!("{constant}{} {name}[{n}]", t.number.c),
+        Shape::Slice => format!("{constant}{} *{name}, size_t {name}_len", t.number.c),
+    }
+}
+
+const HEADER_START: &str = "\
+/* The C interface of noddrefyr: encodings of tokens, their windows, truncation, padding, joining and templates,
+   proved. Made by `compare/run header` from crates/exports/src/lib.rt; link target/staticlib/libexports.a, which
+   `rt staticlib exports` writes.
+
+   A batch is lent as two slices of uint32_t, nodes and rows, each as a pointer and its length in numbers (README.md
+   draws them): a node is 26 numbers, a row 11. The library keeps no pointer, allocates nothing, and takes any
+   numbers whatever; it needs only that each pointer is valid for its length, not null even where the length is 0,
+   and that what it may write overlaps nothing else that it is lent.
+
+   Each function returns 0, or the number of the refusal (docs/OPERATIONS.md), unless its comment says otherwise. */
+#ifndef NODDREFYR_H
+#define NODDREFYR_H
+
+#include <stdbool.h>
+#include <stddef.h>
+#include <stdint.h>
+
+#ifdef __cplusplus
+extern \"C\" {
+#endif
+";
+const HEADER_END: &str = "
+#ifdef __cplusplus
+}
+#endif
+
+#endif
+";
+
+/// The C header.
+pub fn header(functions: &[Function]) -> String {
+    let mut out = String::from(HEADER_START);
+    for f in functions {
+        out.push('\n');
+        if !f.doc.is_empty() {
+            out += &format!("/* {} */\n", f.doc.join("\n   ").replace("*/", "* /"));
+        }
+        let parameters: Vec<String> = f.parameters.iter().map(c_parameter).collect();
+        let parameters = if parameters.is_empty() { "void".to_string() } else { parameters.join(",\n    ") };
+        out += &format!("{} {}(\n    {parameters});\n", f.result.as_ref().map_or("void", |t| t.number.c), f.name);
+    }
+    out + HEADER_END
+}

@@ -1,0 +1,75 @@
+//! Runs the proved library and the Rust on the same inputs. See ../run for the commands.
+//! A new operation is a module with an `Operation`, a line in `operations` and a safe wrapper in `ours`.
+mod bench;
+mod check_batch;
+mod inputs;
+mod lookups;
+mod made;
+mod making;
+mod ours;
+mod sequence_column;
+mod tally;
+mod texts;
+mod wellformed;
+
+use std::process::ExitCode;
+use tally::{Stored, Tally};
+use tokenizers::rng::Rng;
+
+/// One operation of the library, as it is compared, stored and timed.
+pub struct Operation {
+    pub name: &'static str,
+    /// the form of its stored cases, its number first
+    pub format: &'static str,
+    /// exhaustive cases, and `count` random inputs with what is made of each
+    pub compare: fn(&mut Tally, &mut Rng, count: u64),
+    /// small cases for the replay program; the answers come from the oracle or an independent reading
+    pub store: fn(&mut Rng) -> Vec<Stored>,
+    pub bench: fn(),
+}
+
+fn operations() -> Vec<Operation> {
+    let mut all = vec![check_batch::OPERATION];
+    all.extend(lookups::OPERATIONS);
+    all.extend([sequence_column::OPERATION, making::FROM_TOKENS, making::SET_SEQUENCE_ID, texts::TEXT, texts::SPAN]);
+    all
+}
+
+const SEED: u64 = 1;
+const COUNT: u64 = 1_000;
+
+fn compare(seed: u64, count: u64) -> bool {
+    println!("seed {seed}, {count} random inputs per operation, beside the exhaustive ones");
+    let mut good = made::all_up_to_date(&operations());
+    for operation in operations() {
+        let mut tally = Tally::default();
+        (operation.compare)(&mut tally, &mut Rng(seed), count);
+        good &= tally.report(operation.name);
+    }
+    good
+}
+
+fn main() -> ExitCode {
+    let words: Vec<String> = std::env::args().skip(1).collect();
+    let words: Vec<&str> = words.iter().map(String::as_str).collect();
+    let good = match words[..] {
+        [] => compare(SEED, COUNT),
+        ["bench"] => {
+            operations().iter().for_each(|o| (o.bench)());
+            true
+        }
+        ["header"] => made::header().write(),
+        ["store"] => made::stored_cases(&operations()).iter().all(made::Made::write),
+        [seed, count] => match (seed.parse(), count.parse()) {
+            (Ok(seed), Ok(count)) => compare(seed, count),
+            _ => usage(),
+        },
+        _ => usage(),
+    };
+    if good { ExitCode::SUCCESS } else { ExitCode::FAILURE }
+}
+
+fn usage() -> bool {
+    eprintln!("usage: compare/run [SEED COUNT | bench | header | store]");
+    false
+}

@@ -1,0 +1,108 @@
+//! The library under test: a safe function over each declaration that build.rs made from its source.
+use tokenizers::bridge::Batch;
+
+mod bindings {
+    include!(concat!(env!("OUT_DIR"), "/bindings.rs"));
+}
+
+/// What a lent number holds before a call, and must hold after a refusal.
+pub const BEFORE: u32 = 0xDEAD_BEEF;
+
+/// The refusal, 0 for none, and the lent numbers after the call.
+pub type Answer = (u32, Vec<u32>);
+
+/// The refusal, 0 for none. `encodings` becomes the number of top encodings, unless refused.
+pub fn check_batch(nodes: &[u32], rows: &[u32], encodings: &mut usize) -> u32 {
+    // SAFETY: here and below, all that is lent is lent for the call, and no contract has a requirement.
+    unsafe { bindings::noddrefyr_check_batch(nodes.as_ptr(), nodes.len(), rows.as_ptr(), rows.len(), encodings) }
+}
+
+/// An operation that writes: its output, lent with BEFORE in every number, and the two counts that it tells.
+#[derive(Clone, PartialEq, Eq, Debug)]
+pub struct Output {
+    pub refusal: u32,
+    pub counts: [usize; 2],
+    pub out: Batch,
+}
+
+/// What is lent to an operation that writes; it can be lent again and again.
+pub struct Lent {
+    out: Batch,
+    counts: [usize; 2],
+}
+
+impl Lent {
+    /// So many numbers for nodes and for rows.
+    pub fn new(nodes: usize, rows: usize) -> Lent {
+        Lent { out: Batch { nodes: vec![BEFORE; nodes], rows: vec![BEFORE; rows] }, counts: [BEFORE as usize; 2] }
+    }
+
+    fn told(mut self, call: impl FnOnce(&mut Lent) -> u32) -> Output {
+        let refusal = call(&mut self);
+        Output { refusal, counts: self.counts, out: self.out }
+    }
+
+    pub fn from_tokens(&mut self, tokens: &[u32], type_id: u32) -> u32 {
+        let (n, r) = (&mut self.out.nodes, &mut self.out.rows);
+        let counts = self.counts.as_mut_ptr();
+        unsafe { bindings::noddrefyr_from_tokens(tokens.as_ptr(), tokens.len(), type_id, n.as_mut_ptr(), n.len(), r.as_mut_ptr(), r.len(), counts) }
+    }
+
+    pub fn set_sequence_id(&mut self, b: &Batch, id: u32) -> u32 {
+        let (bn, br, n, r) = (&b.nodes, &b.rows, &mut self.out.nodes, &mut self.out.rows);
+        let counts = self.counts.as_mut_ptr();
+        unsafe { bindings::noddrefyr_set_sequence_id(bn.as_ptr(), bn.len(), br.as_ptr(), br.len(), id, n.as_mut_ptr(), n.len(), r.as_mut_ptr(), r.len(), counts) }
+    }
+}
+
+pub fn from_tokens(tokens: &[u32], type_id: u32, nodes: usize, rows: usize) -> Output {
+    Lent::new(nodes, rows).told(|lent| lent.from_tokens(tokens, type_id))
+}
+
+pub fn set_sequence_id(b: &Batch, id: u32, nodes: usize, rows: usize) -> Output {
+    Lent::new(nodes, rows).told(|lent| lent.set_sequence_id(b, id))
+}
+
+/// The sequence column, in an output of so many numbers: the refusal, the number of rows, the output.
+pub fn get_sequence_ids(b: &Batch, length: usize) -> (u32, usize, Vec<u32>) {
+    let (mut out, mut rows) = (vec![BEFORE; length], BEFORE as usize);
+    let (bn, br) = (&b.nodes, &b.rows);
+    let refusal = unsafe {
+        bindings::noddrefyr_get_sequence_ids(bn.as_ptr(), bn.len(), br.as_ptr(), br.len(), out.as_mut_ptr(), out.len(), &mut rows)
+    };
+    (refusal, rows, out)
+}
+
+/// A lookup of so many lent numbers with the two slices of the batch and the options named.
+macro_rules! lookup {
+    ($name:ident, $call:ident, $numbers:literal, $($option:ident),*) => {
+        pub fn $name(b: &Batch $(, $option: u32)*) -> Answer {
+            let mut answer = vec![BEFORE; $numbers];
+            let (bn, br) = (&b.nodes, &b.rows);
+            let refusal = unsafe {
+                bindings::$call(bn.as_ptr(), bn.len(), br.as_ptr(), br.len() $(, $option)*, answer.as_mut_ptr())
+            };
+            (refusal, answer)
+        }
+    };
+}
+
+lookup!(sequence_range, noddrefyr_sequence_range, 2, sequence_id);
+lookup!(n_sequences, noddrefyr_n_sequences, 1,);
+lookup!(token_to_sequence, noddrefyr_token_to_sequence, 2, token);
+lookup!(word_to_tokens, noddrefyr_word_to_tokens, 3, word, sequence_id);
+lookup!(word_to_chars, noddrefyr_word_to_chars, 3, word, sequence_id);
+lookup!(char_to_token, noddrefyr_char_to_token, 2, place, sequence_id);
+lookup!(token_to_chars, noddrefyr_token_to_chars, 4, token);
+lookup!(token_to_word, noddrefyr_token_to_word, 3, token);
+lookup!(char_to_word, noddrefyr_char_to_word, 2, place, sequence_id);
+lookup!(span, noddrefyr_span, 3, node);
+
+pub fn text(b: &Batch, row: u32, tokens: &[u8], added: &[u8]) -> Answer {
+    let mut answer = vec![BEFORE; 4];
+    let (bn, br) = (&b.nodes, &b.rows);
+    let refusal = unsafe {
+        bindings::noddrefyr_text(bn.as_ptr(), bn.len(), br.as_ptr(), br.len(), row, tokens.as_ptr(), tokens.len(), added.as_ptr(), added.len(), answer.as_mut_ptr())
+    };
+    (refusal, answer)
+}

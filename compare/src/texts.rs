@@ -1,0 +1,154 @@
+//! text and span, which the Rust does not have, against what its Encoding says of each row and node of a whole batch.
+use crate::ours::{self, Answer, BEFORE};
+use crate::tally::{Line, Stored, Tally};
+use crate::{bench, inputs, wellformed, Operation};
+use std::hint::black_box;
+use tokenizers::bridge::{from_batch, Batch};
+use tokenizers::rng::Rng;
+use tokenizers::Encoding;
+
+pub const TEXT: Operation = Operation {
+    name: "text",
+    format: "14 nodes rows row token-bytes added-bytes refusal found pool start length (the pools as their lengths)",
+    compare: compare_text,
+    store: store_text,
+    bench: time_text,
+};
+
+pub const SPAN: Operation = Operation {
+    name: "span",
+    format: "15 nodes rows node refusal found start end",
+    compare: compare_span,
+    store: store_span,
+    bench: time_span,
+};
+
+/// All encodings of a batch, windows included, as they are stored; none if it is malformed.
+fn encodings(b: &Batch) -> Option<Vec<Encoding>> {
+    fn add(e: &Encoding, all: &mut Vec<Encoding>) {
+        all.push(e.clone());
+        e.get_overflowing().iter().for_each(|w| add(w, all));
+    }
+    wellformed::top_encodings(&b.nodes, &b.rows)?;
+    let mut all = vec![];
+    from_batch(&b.nodes, &b.rows).iter().for_each(|e| add(e, &mut all));
+    Some(all)
+}
+
+// ---- text
+
+fn text_of(all: &Option<Vec<Encoding>>, row: u32, pools: [usize; 2]) -> Answer {
+    let Some(all) = all else { return (1, vec![BEFORE; 4]) };
+    let Some(text) = all.iter().flat_map(|e| e.get_tokens()).nth(row as usize) else { return (0, vec![0; 4]) };
+    let text: Vec<u32> = text.split(',').map(|x| x.parse().unwrap()).collect();
+    if text[1] as usize + text[2] as usize > pools[text[0] as usize] {
+        return (14, vec![BEFORE; 4]);
+    }
+    (0, vec![1, text[0], text[1], text[2]])
+}
+
+fn answer_line(line: Line, (refusal, values): &Answer) -> Line {
+    values.iter().fold(line.number(*refusal), |line, x| line.number(if *refusal == 0 { *x } else { 0 }))
+}
+
+fn text_line(b: &Batch, row: u32, pools: [usize; 2], answer: &Answer) -> Line {
+    let line = Line::of(14).list(&b.nodes).list(&b.rows).number(row).number(pools[0] as u32).number(pools[1] as u32);
+    answer_line(line, answer)
+}
+
+fn ask_texts(t: &mut Tally, b: &Batch) {
+    let bytes = [0u8; 16];
+    let all = encodings(b);
+    let rows = all.as_ref().map_or(1, |all| all.iter().map(Encoding::len).sum::<usize>()) as u32;
+    for row in (0..=rows + 1).chain([u32::MAX / 11 + 1, u32::MAX]) {
+        for pools in [[0, 0], [4, 8], [8, 4], [7, 7], [16, 3]] {
+            let got = ours::text(b, row, &bytes[..pools[0]], &bytes[..pools[1]]);
+            let want = text_of(&all, row, pools);
+            t.case(got == want, || (format!("ours gave {got:?}"), text_line(b, row, pools, &want)));
+        }
+    }
+}
+
+fn compare_text(t: &mut Tally, r: &mut Rng, count: u64) {
+    inputs::all_texts(&mut |b| ask_texts(t, b));
+    for i in 0..count {
+        let b = inputs::random_small(r, i);
+        ask_texts(t, &b);
+        if !b.nodes.is_empty() {
+            inputs::some_damages(&mut |b| ask_texts(t, b), r, &b, 4);
+        }
+    }
+}
+
+fn store_text(r: &mut Rng) -> Vec<Stored> {
+    let mut out = vec![];
+    for i in 0..12 {
+        let b = inputs::small_batch(r, i % 3);
+        let all = encodings(&b);
+        let (row, pools) = (r.small(12), [[8, 8], [3, 8], [8, 3]][i as usize % 3]);
+        out.push(Stored { what: "a text".to_string(), line: text_line(&b, row, pools, &text_of(&all, row, pools)) });
+    }
+    out
+}
+
+fn time_text() {
+    let b = crate::lookups::bench_batch();
+    let e = from_batch(&b.nodes, &b.rows).remove(0);
+    let bytes = [0u8; 16];
+    let (ours, rust) = bench::both(|| ours::text(black_box(&b), 500, &bytes, &bytes), || e.get_tokens()[black_box(500)].as_ptr());
+    bench::row("text, row 500 of 512", ours, "Rust's get_tokens", rust, "ours checks the batch in each call");
+}
+
+// ---- span
+
+fn span_of(all: &Option<Vec<Encoding>>, node: u32) -> Answer {
+    let Some(all) = all else { return (1, vec![BEFORE; 3]) };
+    let offsets = all.get(node as usize).map_or(&[][..], |e| e.get_offsets());
+    match (offsets.first(), offsets.last()) {
+        (Some(first), Some(last)) => (0, vec![1, first.0 as u32, last.1 as u32]),
+        _ => (0, vec![0; 3]),
+    }
+}
+
+fn span_line(b: &Batch, node: u32, answer: &Answer) -> Line {
+    answer_line(Line::of(15).list(&b.nodes).list(&b.rows).number(node), answer)
+}
+
+fn ask_spans(t: &mut Tally, b: &Batch) {
+    let all = encodings(b);
+    let nodes = all.as_ref().map_or(1, Vec::len) as u32;
+    for node in (0..=nodes + 1).chain([u32::MAX / 26 + 1, u32::MAX]) {
+        let got = ours::span(b, node);
+        let want = span_of(&all, node);
+        t.case(got == want, || (format!("ours gave {got:?}"), span_line(b, node, &want)));
+    }
+}
+
+fn compare_span(t: &mut Tally, r: &mut Rng, count: u64) {
+    for i in 0..count {
+        let b = inputs::random_small(r, i);
+        ask_spans(t, &b);
+        ask_spans(t, &inputs::random_large(r, i));
+        if !b.nodes.is_empty() {
+            inputs::some_damages(&mut |b| ask_spans(t, b), r, &b, 4);
+        }
+    }
+}
+
+fn store_span(r: &mut Rng) -> Vec<Stored> {
+    let mut out = vec![];
+    for i in 0..12 {
+        let b = inputs::small_batch(r, i % 4);
+        let all = encodings(&b);
+        let node = r.small(9);
+        out.push(Stored { what: "a span".to_string(), line: span_line(&b, node, &span_of(&all, node)) });
+    }
+    out
+}
+
+fn time_span() {
+    let b = inputs::large(128, 65_536);
+    let all = encodings(&b);
+    let (ours, rust) = bench::both(|| ours::span(black_box(&b), 127), || span_of(black_box(&all), 127));
+    bench::row("span, node 127, 65,536 rows in all", ours, "Rust's get_offsets", rust, "ours checks the batch in each call");
+}
