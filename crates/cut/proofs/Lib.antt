@@ -1,0 +1,7 @@
+pub mod Ceiling
+pub mod Windows
+pub mod Laws
+pub mod Decides
+pub mod Shares
+pub mod Keeping
+pub mod Samples

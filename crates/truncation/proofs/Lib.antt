@@ -1,0 +1,6 @@
+pub mod Sizes
+pub mod Placing
+pub mod Cutting
+pub mod Fineness
+pub mod Deciding
+pub mod Samples
