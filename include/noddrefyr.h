@@ -135,6 +135,18 @@ uint32_t noddrefyr_span(
     uint32_t node,
     uint32_t answer[3]);
 
+/* One encoding cut to max rows, from its left or its right end, with the other windows of the cut as its windows, written
+   to the output; written is its nodes and its rows. Refused with 1, 3, 2. */
+uint32_t noddrefyr_truncate(
+    const uint32_t *nodes, size_t nodes_len,
+    const uint32_t *rows, size_t rows_len,
+    uint32_t max,
+    uint32_t stride,
+    bool left,
+    uint32_t *out_nodes, size_t out_nodes_len,
+    uint32_t *out_rows, size_t out_rows_len,
+    size_t written[2]);
+
 #ifdef __cplusplus
 }
 #endif

@@ -10,6 +10,7 @@ mod ours;
 mod sequence_column;
 mod tally;
 mod texts;
+mod truncating;
 mod wellformed;
 
 use std::process::ExitCode;
@@ -31,7 +32,7 @@ pub struct Operation {
 fn operations() -> Vec<Operation> {
     let mut all = vec![check_batch::OPERATION];
     all.extend(lookups::OPERATIONS);
-    all.extend([sequence_column::OPERATION, making::FROM_TOKENS, making::SET_SEQUENCE_ID, texts::TEXT, texts::SPAN]);
+    all.extend([sequence_column::OPERATION, making::FROM_TOKENS, making::SET_SEQUENCE_ID, texts::TEXT, texts::SPAN, truncating::OPERATION]);
     all
 }
 

@@ -4,7 +4,7 @@ use crate::ours::{self, Output, BEFORE};
 use crate::tally::{Line, Stored, Tally};
 use crate::{bench, inputs, Operation};
 use std::hint::black_box;
-use tokenizers::bridge::{node_count, row_count, to_batch, Batch, MAX_ROWS, NODE, ROW, SEQUENCES};
+use tokenizers::bridge::{node_count, row_count, to_batch, Batch, MAX_LEVELS, MAX_NODES, MAX_ROWS, NODE, ROW, SEQUENCES};
 use tokenizers::rng::Rng;
 use tokenizers::{Encoding, Token};
 
@@ -32,8 +32,17 @@ fn rust_tokens(tokens: &[u32], type_id: u32) -> Encoding {
     Encoding::from_tokens(tokens.chunks(TOKEN).map(token).collect(), type_id)
 }
 
+/// The levels of windows below an encoding.
+fn levels(e: &Encoding) -> usize {
+    e.get_overflowing().iter().map(|w| 1 + levels(w)).max().unwrap_or(0)
+}
+
+fn beyond_limits(e: &Encoding, counts: [usize; 2]) -> bool {
+    counts[0] > MAX_NODES || counts[1] > MAX_ROWS || levels(e) > MAX_LEVELS
+}
+
 /// What is left in an output of so many numbers, each `before` at first: a refusal, or the result.
-fn output(result: Result<&Encoding, u32>, nodes: usize, rows: usize, before: u32) -> Output {
+pub fn output(result: Result<&Encoding, u32>, nodes: usize, rows: usize, before: u32) -> Output {
     let mut out = Batch { nodes: vec![before; nodes], rows: vec![before; rows] };
     let refused = |refusal, out| Output { refusal, counts: [BEFORE as usize; 2], out };
     let e = match result {
@@ -41,7 +50,7 @@ fn output(result: Result<&Encoding, u32>, nodes: usize, rows: usize, before: u32
         Ok(e) => e,
     };
     let counts = [node_count(e), row_count(e)];
-    if counts[0] * NODE > nodes || counts[1] * ROW > rows || counts[1] > MAX_ROWS {
+    if counts[0] * NODE > nodes || counts[1] * ROW > rows || beyond_limits(e, counts) {
         return refused(2, out);
     }
     let b = to_batch(std::slice::from_ref(e)).expect("numbers of a batch");
@@ -56,7 +65,7 @@ fn stored(line: Line, want: Output) -> Line {
 }
 
 /// Outputs of just enough numbers, of some more, and of one number too few for the nodes and for the rows.
-fn outputs(nodes: usize, rows: usize) -> [(usize, usize); 4] {
+pub fn outputs(nodes: usize, rows: usize) -> [(usize, usize); 4] {
     [(nodes, rows), (nodes + 3, rows + 4), (nodes.saturating_sub(1), rows), (nodes, rows.saturating_sub(1))]
 }
 

@@ -48,11 +48,21 @@ impl Lent {
         unsafe { bindings::noddrefyr_from_tokens(tokens.as_ptr(), tokens.len(), type_id, n.as_mut_ptr(), n.len(), r.as_mut_ptr(), r.len(), counts) }
     }
 
+    pub fn truncate(&mut self, b: &Batch, max: u32, stride: u32, left: bool) -> u32 {
+        let (bn, br, n, r) = (&b.nodes, &b.rows, &mut self.out.nodes, &mut self.out.rows);
+        let counts = self.counts.as_mut_ptr();
+        unsafe { bindings::noddrefyr_truncate(bn.as_ptr(), bn.len(), br.as_ptr(), br.len(), max, stride, left, n.as_mut_ptr(), n.len(), r.as_mut_ptr(), r.len(), counts) }
+    }
+
     pub fn set_sequence_id(&mut self, b: &Batch, id: u32) -> u32 {
         let (bn, br, n, r) = (&b.nodes, &b.rows, &mut self.out.nodes, &mut self.out.rows);
         let counts = self.counts.as_mut_ptr();
         unsafe { bindings::noddrefyr_set_sequence_id(bn.as_ptr(), bn.len(), br.as_ptr(), br.len(), id, n.as_mut_ptr(), n.len(), r.as_mut_ptr(), r.len(), counts) }
     }
+}
+
+pub fn truncate(b: &Batch, max: u32, stride: u32, left: bool, nodes: usize, rows: usize) -> Output {
+    Lent::new(nodes, rows).told(|lent| lent.truncate(b, max, stride, left))
 }
 
 pub fn from_tokens(tokens: &[u32], type_id: u32, nodes: usize, rows: usize) -> Output {

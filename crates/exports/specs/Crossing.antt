@@ -3,11 +3,13 @@
 -- where it is not.
 -- Assumes nothing: these are definitions.
 use mathlib.Core.Path.{_≡_}
+use mathlib.Core.Bool.{Bool, true, false}
 use Prim.Native.Nat.{ℕ}
 use mathlib.Core.List.{List, [], _∷_}
 use Rattle.record.specs.Flat.{flatNodes, flatRows}
 use Rattle.record.specs.Refusals.{numberOf}
 use Rattle.record.specs.Outcome.{Outcome, answered, refusalOf, countsOr, left}
+use Rattle.cut.specs.declared.Direction as direction
 use Rattle.sequences.specs.declared.RangeAnswer as range
 use Rattle.sequences.specs.declared.CountAnswer as count
 use Rattle.sequences.specs.declared.SequenceAnswer as sequence
@@ -91,6 +93,13 @@ abbrev pub spanCrossed : List ℕ → span.SpanAnswer → Crossed
 spanCrossed was (span.the-variants.Refused k) = crossed (numberOf k) was
 spanCrossed was span.the-variants.Nothing = crossed 0 (0 ∷ 0 ∷ 0 ∷ [])
 spanCrossed was (span.the-variants.Found a b) = crossed 0 (1 ∷ a .0 ∷ b .0 ∷ [])
+
+-- ---- Options
+
+-- a cut from the left end of the rows, or from the right
+abbrev pub directionOf : Bool → direction.Direction
+directionOf true = direction.the-variants.Left
+directionOf false = direction.the-variants.Right
 
 -- ---- An operation that writes
 

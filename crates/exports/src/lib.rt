@@ -9,10 +9,12 @@ ghost use Rattle.making.specs.Making.{fromTokens, setSequenceId};
 ghost use Rattle.sequences.specs.Answers.{rangeAnswer, countAnswer, sequenceAnswer, columnAnswer, columnLeft, sequenceIds};
 ghost use Rattle.lookup.specs.Lookup.{wordToTokens, wordToChars, charToToken, tokenToChars, tokenToWord, charToWord};
 ghost use Rattle.lookup.specs.Answers.{tokensAnswer, charsAnswer, tokenAnswer, tokenCharsAnswer, tokenWordAnswer, wordAnswer};
+ghost use Rattle.truncation.specs.Truncate.{truncateOutcome};
 ghost use Rattle.text.specs.RowText.{textAnswer};
 ghost use Rattle.text.specs.NodeSpan.{spanAnswer};
-ghost use Rattle.exports.specs.Crossing.{Crosses, WritesOut, rangeCrossed, countCrossed, sequenceCrossed, columnCrossed, tokensCrossed, charsCrossed, tokenCrossed, tokenCharsCrossed, tokenWordCrossed, wordCrossed, textCrossed, spanCrossed};
+ghost use Rattle.exports.specs.Crossing.{Crosses, WritesOut, directionOf, rangeCrossed, countCrossed, sequenceCrossed, columnCrossed, tokensCrossed, charsCrossed, tokenCrossed, tokenCharsCrossed, tokenWordCrossed, wordCrossed, textCrossed, spanCrossed};
 use batch::Shape;
+use cut::Direction;
 use lookup::CharsAnswer;
 use lookup::TokenAnswer;
 use lookup::TokenCharsAnswer;
@@ -375,6 +377,42 @@ pub extern "C" fn noddrefyr_span(
         }
         SpanAnswer::Found { start, end } => {
             *answer = [1, start.0, end.0];
+            0
+        }
+    }
+}
+
+fn direction_of(left: bool) -> Direction
+    ensures { λ r. ⌜ r ≡ directionOf left ⌝ }
+{
+    if left {
+        Direction::Left
+    } else {
+        Direction::Right
+    }
+}
+
+// One encoding cut to max rows, from its left or its right end, with the other windows of the cut as its windows, written
+// to the output; written is its nodes and its rows. Refused with 1, 3, 2.
+#[no_mangle]
+pub extern "C" fn noddrefyr_truncate(
+    nodes: &[u32],
+    rows: &[u32],
+    max: u32,
+    stride: u32,
+    left: bool,
+    out_nodes: &mut [u32],
+    out_rows: &mut [u32],
+    written: &mut [usize; 2],
+) -> u32
+    ensures { λ r. ⌜ WritesOut (truncateOutcome (now («out_nodes» .entry)) (now («out_rows» .entry)) max stride (directionOf left) (read (now (nodes .entry)) (now (rows .entry)))) r (now (written .entry)) (now (written .exit)) (now («out_nodes» .entry)) (now («out_rows» .entry)) (now («out_nodes» .exit)) (now («out_rows» .exit)) ⌝ }
+{
+    let direction = direction_of(left);
+    let answer = truncation::truncate(nodes, rows, max, stride, direction, out_nodes, out_rows);
+    match answer {
+        Written::Refused(k) => k.number(),
+        Written::Done { nodes: n, rows: r } => {
+            *written = [n, r];
             0
         }
     }

@@ -49,6 +49,8 @@ const TEXT: u32 = 14;
 
 const SPAN: u32 = 15;
 
+const TRUNCATE: u32 = 16;
+
 // Runs the case that a line holds. A line that starts with `#` is a comment, and an empty line is skipped.
 pub fn replay_line(line: &[u8]) -> Outcome
     ensures { λ r. ⌜ (skips (now (line .entry)) ≡ true → r ≡ Outcome.Skipped) ⌝ }
@@ -105,6 +107,7 @@ fn replay_batch(operation: u32, nodes: &[u32], rows: &[u32], rest: &[u32]) -> Ou
         SET_SEQUENCE_ID => replay_set_sequence_id(nodes, rows, rest),
         TEXT => replay_text(nodes, rows, rest),
         SPAN => replay_span(nodes, rows, rest),
+        TRUNCATE => replay_truncate(nodes, rows, rest),
         _ => replay_lookup(operation, nodes, rows, rest),
     }
 }
@@ -417,4 +420,51 @@ fn replay_span(nodes: &[u32], rows: &[u32], rest: &[u32]) -> Outcome {
     let mut answer = [0u32; 3];
     let refusal = exports::noddrefyr_span(nodes, rows, rest[0], &mut answer);
     answered_three(refusal, answer[0], answer[1], answer[2], &rest[1..])
+}
+
+// `16 nodes rows max stride left node-numbers row-numbers refusal nodes rows`
+fn replay_truncate(nodes: &[u32], rows: &[u32], rest: &[u32]) -> Outcome {
+    let mut out_nodes = [BEFORE; OUTPUT];
+    let mut out_rows = [BEFORE; OUTPUT];
+    truncated(nodes, rows, rest, &mut out_nodes, &mut out_rows)
+}
+
+fn truncated(
+    nodes: &[u32],
+    rows: &[u32],
+    rest: &[u32],
+    out_nodes: &mut [u32],
+    out_rows: &mut [u32],
+) -> Outcome {
+    if rest.len() < 6 {
+        return Outcome::Bad;
+    }
+    let node_numbers = cases::wide(rest[3]);
+    let row_numbers = cases::wide(rest[4]);
+    if node_numbers > out_nodes.len() {
+        return Outcome::Bad;
+    }
+    if row_numbers > out_rows.len() {
+        return Outcome::Bad;
+    }
+    let mut written = [0usize; 2];
+    let refusal = exports::noddrefyr_truncate(
+        nodes,
+        rows,
+        rest[0],
+        rest[1],
+        rest[2] == 1,
+        &mut out_nodes[..node_numbers],
+        &mut out_rows[..row_numbers],
+        &mut written,
+    );
+    if refusal != rest[5] {
+        return Outcome::Differs;
+    }
+    left(
+        &out_nodes[..node_numbers],
+        &out_rows[..row_numbers],
+        rest,
+        6,
+    )
 }
