@@ -75,12 +75,19 @@ pub fn set_sequence_id(b: &Batch, id: u32, nodes: usize, rows: usize) -> Output 
 
 /// The sequence column, in an output of so many numbers: the refusal, the number of rows, the output.
 pub fn get_sequence_ids(b: &Batch, length: usize) -> (u32, usize, Vec<u32>) {
-    let (mut out, mut rows) = (vec![BEFORE; length], BEFORE as usize);
+    let mut out = vec![BEFORE; length];
+    let (refusal, rows) = get_sequence_ids_into(b, &mut out);
+    (refusal, rows, out)
+}
+
+/// The same, in an output that can be lent again and again.
+pub fn get_sequence_ids_into(b: &Batch, out: &mut [u32]) -> (u32, usize) {
     let (bn, br) = (&b.nodes, &b.rows);
+    let mut rows = BEFORE as usize;
     let refusal = unsafe {
         bindings::noddrefyr_get_sequence_ids(bn.as_ptr(), bn.len(), br.as_ptr(), br.len(), out.as_mut_ptr(), out.len(), &mut rows)
     };
-    (refusal, rows, out)
+    (refusal, rows)
 }
 
 /// A lookup of so many lent numbers with the two slices of the batch and the options named.
