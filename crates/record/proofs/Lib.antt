@@ -4,7 +4,9 @@ pub mod WellFormed
 pub mod Read
 pub mod Samples
 pub mod Standing
+pub mod Here
 pub mod Sets
+pub mod Put
 pub mod One
 pub mod Outcome
 pub mod Walk

@@ -1,12 +1,13 @@
--- Where encodings stand in the two lists.
+-- Where encodings stand in the two lists, and that they were written there.
 -- Assumes nothing: these are definitions.
 use mathlib.Core.Path.{_≡_}
-use Prim.Native.Nat.{ℕ}
-use mathlib.Core.List.{List, [], _∷_, _++_}
-use lib.ListN.{drop}
-use Rattle.record.specs.Tree.{Forest, Encoding, forest}
-use Rattle.record.specs.Flat.{flatNodes, flatRows}
-use Rattle.record.specs.WellFormed.{Stores}
+use Prim.Native.Nat.{ℕ, _≤_}
+use mathlib.Core.List.{List, [], _∷_, _++_, flatMap}
+use lib.ListN.{length, drop}
+use lib.Seq.{sets}
+use Rattle.record.specs.Tree.{Row, Forest, Encoding, forest}
+use Rattle.record.specs.Flat.{rowNumbers, flatNodes, flatRows}
+use Rattle.record.specs.WellFormed.{WellFormed, Stores}
 
 -- The nodes from place i on begin with f's, and so do the rows from place j on.
 pub record At (nodes rows : List ℕ) (i j : ℕ) (f : Forest) : Type 0 where
@@ -18,3 +19,19 @@ pub record At (nodes rows : List ℕ) (i j : ℕ) (f : Forest) : Type 0 where
 -- The two lists store the one encoding E.
 pub record One (nodes rows : List ℕ) (E : Encoding) : Type 0 where
   pub stores : Stores nodes rows (forest (E ∷ []))
+
+-- The rows from place j on begin with R.
+pub record RowsAt (rows : List ℕ) (j : ℕ) (R : List Row) : Type 0 where
+  pub rest : List ℕ
+  pub is : drop j rows ≡ flatMap rowNumbers R ++ rest
+
+-- The encodings f, well-formed, stand at places i and j.
+pub record Here (nodes rows : List ℕ) (i j : ℕ) (f : Forest) : Type 0 where
+  pub at : At nodes rows i j f
+  pub on : j ≤ length rows
+  pub well : WellFormed f
+
+-- The encodings fs were written from places a and b on; every other number is as it was.
+pub record Put (fs : List Encoding) (nodes : List ℕ) (a : ℕ) (rows : List ℕ) (b : ℕ) (nodes′ rows′ : List ℕ) : Type 0 where
+  pub nodes-put : nodes′ ≡ sets nodes a (flatNodes (forest fs))
+  pub rows-put : rows′ ≡ sets rows b (flatRows (forest fs))

@@ -5,7 +5,7 @@ use Prim.Native.Nat.{ℕ, _+_, _*_, _-_, _≤_}
 use native.Mathlib.Omega.{arith}
 use mathlib.Core.List.{List, [], _∷_, map}
 use lib.ListN.{length, getD}
-use Rattle.record.specs.Tree.{Encoding}
+use Rattle.record.specs.Tree.{Encoding, forest}
 use Rattle.record.specs.Flat.{rowWidth, nodeWidth}
 use Rattle.cut.specs.Cut.{windowsOf, decisionOf, rowsOf, ceiling}
 use Rattle.cut.specs.declared.Direction.{Direction}
@@ -17,10 +17,11 @@ use Rattle.extent.specs.declared.Extent.{Extent}
 use Rattle.truncation.specs.Size.{sizeCut}
 use Rattle.windows.specs.Made.{plain, part, gathered}
 use Rattle.truncation.specs.Truncate.{truncated}
-use Rattle.windows.specs.Writing.{AskWindows, Put}
-use Rattle.truncation.specs.Writing.{Here, AskCopy, Ask}
+use Rattle.record.specs.Standing.{Here, Put}
+use Rattle.windows.specs.Writing.{AskWindows}
+use Rattle.truncation.specs.Writing.{AskCopy, Ask}
 use Rattle.truncation.proofs.Sizes.{truncated-whole, truncated-emptied, truncated-cut, not-refused}
-use Rattle.truncation.proofs.Placing.{here-size, here-own}
+use Rattle.record.proofs.Here.{here-size, here-own}
 
 -- ---- What each way asks
 
@@ -58,10 +59,10 @@ module _ {nodes rows : List ℕ} {i j : ℕ} {own : Extent} {max stride : ℕ} {
 
 -- ---- What each way makes
 
-says : {nodes rows : List ℕ} {i j : ℕ} {E : Encoding} {k : Decision} (max stride : ℕ) → Here nodes rows i j E → k ≡ decisionOf (getD nodes i 0) max stride → Says (length (E .rows)) max stride k
+says : {nodes rows : List ℕ} {i j : ℕ} {E : Encoding} {k : Decision} (max stride : ℕ) → Here nodes rows i j (forest (E ∷ [])) → k ≡ decisionOf (getD nodes i 0) max stride → Says (length (E .rows)) max stride k
 says {nodes} {rows} {i} {j} {E} max stride h e = subst (Says (length (E .rows)) max stride) (sym (e ∙ ap (λ (n : ℕ). decisionOf n max stride) (here-size h))) (decided (length (E .rows)) max stride)
 
-module _ {nodes rows : List ℕ} {i j : ℕ} {E : Encoding} (h : Here nodes rows i j E) (max stride : ℕ) (d : Direction) {nodes₀ : List ℕ} {a : ℕ} {rows₀ : List ℕ} {b : ℕ} {nodes₁ rows₁ : List ℕ} where
+module _ {nodes rows : List ℕ} {i j : ℕ} {E : Encoding} (h : Here nodes rows i j (forest (E ∷ []))) (max stride : ℕ) (d : Direction) {nodes₀ : List ℕ} {a : ℕ} {rows₀ : List ℕ} {b : ℕ} {nodes₁ rows₁ : List ℕ} where
   made : {F : Encoding} → truncated max stride d E ≡ F → Put (F ∷ []) nodes₀ a rows₀ b nodes₁ rows₁ → Put (truncated max stride d E ∷ []) nodes₀ a rows₀ b nodes₁ rows₁
   made e p = subst (λ (F : Encoding). Put (F ∷ []) nodes₀ a rows₀ b nodes₁ rows₁) (sym e) p
 

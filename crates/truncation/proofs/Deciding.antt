@@ -10,7 +10,7 @@ use Rattle.record.specs.Tree.{Encoding, Forest, forest}
 use Rattle.record.specs.Flat.{rowWidth, nodeWidth, flatNodes}
 use Rattle.record.specs.WellFormed.{levels}
 use Rattle.record.specs.Read.{Reading, read, isOne}
-use Rattle.record.specs.Standing.{One}
+use Rattle.record.specs.Standing.{One, Here, Put}
 use Rattle.record.specs.Outcome.{refused, done, inRoom, Writes}
 use Rattle.record.specs.declared.Refusal.the-variants.{MalformedRecord, NoRoom, Stride}
 use Rattle.record.specs.declared.Written.the-variants.{Done}
@@ -23,15 +23,14 @@ use Rattle.extent.proofs.Room.{room-by-size, roomy-fits}
 use Rattle.extent.specs.Size.{sizeOf, Stands, roomy}
 use Rattle.truncation.specs.Size.{sizeAfter, Fitting}
 use Rattle.truncation.specs.Truncate.{truncated, strideRefused, truncateOutcome}
-use Rattle.windows.specs.Writing.{Put}
-use Rattle.truncation.specs.Writing.{Here, Ask}
+use Rattle.truncation.specs.Writing.{Ask}
 use Rattle.truncation.proofs.Sizes.{truncated-size}
 use Rattle.truncation.proofs.Fineness.{truncated-fine}
 
 -- ---- The one encoding, where it stands and what it holds
 
 module _ {nodes rows : List ℕ} {E : Encoding} (h : One nodes rows E) where
-  pub one-here : Here nodes rows 0 0 E
+  pub one-here : Here nodes rows 0 0 (forest (E ∷ []))
   one-here = record { at = one-at h; on = omega arith; well = h .stores .well }
 
   pub one-stands : Stands nodes 0 1 (forest (E ∷ []))

@@ -7,28 +7,20 @@ use mathlib.Core.List.{List, [], _∷_}
 use lib.ListN.{length}
 use Rattle.record.specs.Tree.{Encoding, forest}
 use Rattle.record.specs.Flat.{rowWidth, nodeWidth}
-use Rattle.record.specs.WellFormed.{WellFormed}
-use Rattle.record.specs.Standing.{At}
-use Rattle.windows.specs.Writing.{Put}
+use Rattle.record.specs.Standing.{Here, Put}
 use Rattle.extent.specs.Size.{sizeOf}
 use Rattle.extent.specs.declared.Extent.{Extent}
 use Rattle.truncation.specs.Size.{sizeAfter}
 use Rattle.truncation.specs.Truncate.{strideRefused}
 
--- the encoding E stands there
-pub record Here (nodes rows : List ℕ) (i j : ℕ) (E : Encoding) : Type 0 where
-  pub at : At nodes rows i j (forest (E ∷ []))
-  pub on : j ≤ length rows
-  pub well : WellFormed (forest (E ∷ []))
-
 -- whatever encoding stands there and holds `own`, what `make` makes of it was written from a and b on
 abbrev pub Makes : (Encoding → Encoding) → List ℕ → List ℕ → ℕ → ℕ → Extent → List ℕ → ℕ → List ℕ → ℕ → List ℕ → List ℕ → Type 0
-Makes make nodes rows i j own nodes₀ a rows₀ b nodes₁ rows₁ = (E : Encoding) → Here nodes rows i j E → own ≡ sizeOf (forest (E ∷ [])) → Put (make E ∷ []) nodes₀ a rows₀ b nodes₁ rows₁
+Makes make nodes rows i j own nodes₀ a rows₀ b nodes₁ rows₁ = (E : Encoding) → Here nodes rows i j (forest (E ∷ [])) → own ≡ sizeOf (forest (E ∷ [])) → Put (make E ∷ []) nodes₀ a rows₀ b nodes₁ rows₁
 
 -- an encoding that holds `own` stands there, and from a and b on there is room for it
 pub record AskCopy (nodes rows : List ℕ) (i j : ℕ) (own : Extent) (nodes′ : List ℕ) (a : ℕ) (rows′ : List ℕ) (b : ℕ) : Type 0 where
   pub E : Encoding
-  pub here : Here nodes rows i j E
+  pub here : Here nodes rows i j (forest (E ∷ []))
   pub measured : own ≡ sizeOf (forest (E ∷ []))
   pub nodes-fit : a + own .nodes * nodeWidth ≤ length nodes′
   pub rows-fit : b + own .rows * rowWidth ≤ length rows′
@@ -36,7 +28,7 @@ pub record AskCopy (nodes rows : List ℕ) (i j : ℕ) (own : Extent) (nodes′ 
 -- an encoding that holds `own` stands there, its cut is not refused, and from a and b on there is room for what it makes
 pub record Ask (nodes rows : List ℕ) (i j : ℕ) (own : Extent) (max stride : ℕ) (nodes′ : List ℕ) (a : ℕ) (rows′ : List ℕ) (b : ℕ) : Type 0 where
   pub E : Encoding
-  pub here : Here nodes rows i j E
+  pub here : Here nodes rows i j (forest (E ∷ []))
   pub measured : own ≡ sizeOf (forest (E ∷ []))
   pub taken : strideRefused (length (E .rows)) max stride ≡ false
   pub nodes-fit : a + sizeAfter (length (E .rows)) max stride own .nodes * nodeWidth ≤ length nodes′

@@ -11,7 +11,7 @@ use Rattle.record.specs.Flat.{rowNumbers, rangeNumbers, flatNodes, flatRows}
 use Rattle.record.proofs.Tree.{listed-forest}
 use Rattle.cut.specs.declared.Bounds.{Bounds}
 use Rattle.windows.specs.Made.{plain, part, gathered}
-use Rattle.windows.specs.Writing.{Put}
+use Rattle.record.specs.Standing.{Put}
 use Rattle.windows.proofs.Heads.{set-second}
 
 module _ (r : List Row) (fs : List Encoding) where

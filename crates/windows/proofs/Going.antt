@@ -16,8 +16,10 @@ use Rattle.cut.specs.declared.Direction.{Direction}
 use Rattle.cut.specs.declared.Bounds.{Bounds}
 use Rattle.cut.proofs.Laws.{Sized, windows-sized}
 use Rattle.windows.specs.Made.{part}
-use Rattle.windows.specs.Writing.{RowsAt, AskPart, AskWindows, Put}
-use Rattle.windows.proofs.Parts.{Inside, put-none, put-more, parts-nodes-long, parts-rows-long, all-take, all-get, rows-take, rows-take-le}
+use Rattle.record.specs.Standing.{RowsAt, Put}
+use Rattle.record.proofs.Put.{put-none, put-more}
+use Rattle.windows.specs.Writing.{AskPart, AskWindows}
+use Rattle.windows.proofs.Parts.{Inside, parts-nodes-long, parts-rows-long, all-take, all-get, rows-take, rows-take-le}
 
 map-append : {A B : Type 0} (f : A → B) (xs ys : List A) → map f (xs ++ ys) ≡ map f xs ++ map f ys
 map-append f [] ys = refl

@@ -7,16 +7,16 @@ use native.Mathlib.Omega.{arith}
 use mathlib.Core.List.{List, [], _∷_, _++_, flatMap, map, append-assoc, append-nil}
 use lib.ListN.{length, getD, take, drop, length-append, length-take, length-drop, take-append-drop}
 use lib.Seq.{sets, drop-at, take-at, drop-drop}
-use Rattle.record.specs.Tree.{Row, Encoding, forest, All}
+use Rattle.record.specs.Tree.{Row, forest, All}
 use Rattle.record.specs.Flat.{rowWidth, nodeWidth, rowNumbers, flatNodes, flatRows}
 use Rattle.record.specs.WellFormed.{nodesIn, rowsIn, levels}
-use Rattle.record.proofs.Flat.{length-numbers, row-stored, length-rows, flatNodes-append, flatRows-append}
-use Rattle.record.proofs.Sets.{sets-append}
+use Rattle.record.proofs.Flat.{length-numbers, row-stored, length-rows, flatNodes-append}
 use Rattle.record.proofs.Walk.{numbers-append}
 use Rattle.cut.specs.Cut.{rowsOf}
 use Rattle.cut.specs.declared.Bounds.{Bounds}
 use Rattle.windows.specs.Made.{part}
-use Rattle.windows.specs.Writing.{head, RowsAt, Put}
+use Rattle.record.specs.Standing.{RowsAt, Put}
+use Rattle.windows.specs.Writing.{head}
 use Rattle.windows.proofs.Heads.{flat-plain}
 
 -- ---- The numbers of a stretch
@@ -49,20 +49,6 @@ part-put {rows} {j} {R} {b} {nodes₀} {nodes₁} {rows₀} {rows₁} {a} {c} {f
     record {
       nodes-put = n ∙ ap (sets nodes₀ a) (sym (flat-plain (part R b .rows) [] ∙ append-nil _ ∙ ap (λ (m : ℕ). head m 0) (size-part R b l)));
       rows-put = r ∙ ap₂ (λ (f : ℕ) (z : ℕ). sets rows₀ c (take (z * rowWidth) (drop (j + f * rowWidth) rows))) f z ∙ ap (sets rows₀ c) (stretch-numbers h (b .start) (b .end) k l ∙ sym (flat-part-rows R b));
-    }
-
--- ---- One after another
-
-pub put-none : (nodes rows : List ℕ) (a b : ℕ) → Put [] nodes a rows b nodes rows
-unfolding flatNodes flatRows
-put-none nodes rows a b = record { nodes-put = refl; rows-put = refl }
-
-pub put-more : {fs gs : List Encoding} {nodes₀ rows₀ nodes₁ rows₁ nodes₂ rows₂ : List ℕ} {a b a′ b′ : ℕ} → Put fs nodes₀ a rows₀ b nodes₁ rows₁
-    → a′ ≡ a + length (flatNodes (forest fs)) → b′ ≡ b + length (flatRows (forest fs)) → Put gs nodes₁ a′ rows₁ b′ nodes₂ rows₂ → Put (fs ++ gs) nodes₀ a rows₀ b nodes₂ rows₂
-put-more {fs} {gs} {nodes₀} {rows₀} {nodes₁} {rows₁} {nodes₂} {rows₂} {a} {b} {a′} {b′} p ea eb q =
-    record {
-      nodes-put = q .nodes-put ∙ ap₂ (λ (l : List ℕ) (i : ℕ). sets l i (flatNodes (forest gs))) (p .nodes-put) ea ∙ sets-append nodes₀ a (flatNodes (forest fs)) (flatNodes (forest gs)) ∙ ap (sets nodes₀ a) (sym (flatNodes-append fs gs));
-      rows-put = q .rows-put ∙ ap₂ (λ (l : List ℕ) (i : ℕ). sets l i (flatRows (forest gs))) (p .rows-put) eb ∙ sets-append rows₀ b (flatRows (forest fs)) (flatRows (forest gs)) ∙ ap (sets rows₀ b) (sym (flatRows-append fs gs));
     }
 
 -- ---- How many there are

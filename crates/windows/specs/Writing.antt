@@ -2,11 +2,11 @@
 -- Assumes nothing: these are definitions.
 use mathlib.Core.Path.{_≡_}
 use Prim.Native.Nat.{ℕ, _+_, _*_, _-_, _≤_}
-use mathlib.Core.List.{List, _∷_, _++_, flatMap}
-use lib.ListN.{length, drop, replicate}
-use lib.Seq.{sets}
-use Rattle.record.specs.Tree.{Row, Encoding, forest, sequences}
-use Rattle.record.specs.Flat.{rowWidth, nodeWidth, rowNumbers, flatNodes, flatRows}
+use mathlib.Core.List.{List, _∷_}
+use lib.ListN.{length, replicate}
+use Rattle.record.specs.Tree.{Row, Encoding, sequences}
+use Rattle.record.specs.Flat.{rowWidth, nodeWidth}
+use Rattle.record.specs.Standing.{RowsAt, Put}
 use Rattle.cut.specs.Cut.{Cuts, windowsOf, rowsOf}
 use Rattle.cut.specs.declared.Direction.{Direction}
 use Rattle.cut.specs.declared.Bounds.{Bounds}
@@ -14,11 +14,6 @@ use Rattle.cut.specs.declared.Bounds.{Bounds}
 -- the numbers of a node without ranges: its row count and its window count
 abbrev pub head : ℕ → ℕ → List ℕ
 head n k = n ∷ k ∷ replicate (3 * sequences) 0
-
--- the rows from place j on begin with R
-pub record RowsAt (rows : List ℕ) (j : ℕ) (R : List Row) : Type 0 where
-  pub rest : List ℕ
-  pub is : drop j rows ≡ flatMap rowNumbers R ++ rest
 
 -- the stretch lies in the rows from j on, and from a and b on there is room for it
 pub record AskPart (rows : List ℕ) (j : ℕ) (s : Bounds) (nodes′ : List ℕ) (a : ℕ) (rows′ : List ℕ) (b : ℕ) : Type 0 where
@@ -35,11 +30,6 @@ pub record AskWindows (rows : List ℕ) (j n max stride : ℕ) (d : Direction) (
   pub cut : Cuts n max stride
   pub nodes-fit : a + length (windowsOf n max stride d) * nodeWidth ≤ length nodes′
   pub rows-fit : b + rowsOf (windowsOf n max stride d) * rowWidth ≤ length rows′
-
--- the encodings fs were written from a and b on
-pub record Put (fs : List Encoding) (nodes : List ℕ) (a : ℕ) (rows : List ℕ) (b : ℕ) (nodes′ rows′ : List ℕ) : Type 0 where
-  pub nodes-put : nodes′ ≡ sets nodes a (flatNodes (forest fs))
-  pub rows-put : rows′ ≡ sets rows b (flatRows (forest fs))
 
 -- whatever n rows stand there, the encodings that `make` makes of them were written from a and b on
 abbrev pub MakesOfRows : (List Row → List Encoding) → List ℕ → ℕ → ℕ → List ℕ → ℕ → List ℕ → ℕ → List ℕ → List ℕ → Type 0

@@ -3,7 +3,8 @@ use mathlib.Core.Path.{ap}
 use native.Mathlib.Omega.{arith}
 use borrow.Author.Needs.{needs}
 use Rattle.extent.specs.declared.Extent.{Extent}
-use Rattle.truncation.proofs.Placing.{here-nodes-fit, here-rows-fit, copy-put}
+use Rattle.record.proofs.Here.{here-nodes-fit, here-rows-fit}
+use Rattle.truncation.proofs.Placing.{copy-put}
 use Rattle.truncation.proofs.copy_encoding.Statement.{statement}
 use Rattle.truncation.proofs.copy_encoding.Tie as tie
 

@@ -2,7 +2,7 @@
 use mathlib.Core.Path.{sym, _∙_}
 use native.Mathlib.Omega.{arith}
 use borrow.Author.Needs.{needs}
-use Rattle.truncation.proofs.Placing.{here-nodes-fit, here-size, here-own}
+use Rattle.record.proofs.Here.{here-nodes-fit, here-size, here-own}
 use Rattle.truncation.proofs.Cutting.{ask-whole, ask-emptied, ask-cut, ask-refused, made-whole, made-emptied, made-cut}
 use Rattle.truncation.proofs.write_truncated.Statement.{statement}
 use Rattle.truncation.proofs.write_truncated.Tie as tie
