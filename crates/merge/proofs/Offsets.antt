@@ -1,6 +1,6 @@
 -- Offsets within 32 bits: the last step of a fold tells of all of them, and a join that does not grow keeps them.
 -- Assumes nothing.
-use mathlib.Core.Path.{_≡_, refl, sym}
+use mathlib.Core.Path.{_≡_, refl}
 use mathlib.Core.Bool.{Bool, true, false, _&&_, false≢true}
 use mathlib.Core.List.{List, [], _∷_, _++_, map}
 use Prim.Native.Nat.{ℕ, _+_, _≤_}
@@ -8,7 +8,7 @@ use native.Mathlib.Omega.{arith}
 use Rattle.record.specs.Tree.{Row, Range, Forest, none, node, Encoding, forest, empty, All}
 use Rattle.record.specs.Read.{allOk}
 use Rattle.record.proofs.Tree.{all-append, all-map}
-use Rattle.record.proofs.WellFormed.{Tells, tells-le, tells-and, tells-and₃}
+use Rattle.record.proofs.WellFormed.{Tells, tells-le, tells-and, tells-and₃, tells-same}
 use Rattle.merge.specs.Join.{moved, base, joinRows, join, foldFrom, fold}
 use Rattle.merge.specs.Offsets.{mostOffset, rowFits, offsetsFit, joinFits, stepsFit, foldFits}
 use Rattle.merge.proofs.Each.{Each, join-each, join-each-left, join-each-right}
@@ -114,15 +114,7 @@ module _ (g : Bool) where
 
   -- "any offset at any step": the steps stay within exactly if the fold does.
   pub steps-fit : (Ps : List Encoding) → foldFits g Ps ≡ offsetsFit (forest (fold g Ps ∷ []))
-  steps-fit Ps = same (tells-fold Ps) (tells-offsets (forest (fold g Ps ∷ [])))
-    where
-      same : {a b : Bool} {M : Type 0} → Tells a M → Tells b M → a ≡ b
-      same {a} {b} s t = go a b (λ e. t .back (s .so e)) (λ e. s .back (t .so e))
-        where
-          go : (a b : Bool) → (a ≡ true → b ≡ true) → (b ≡ true → a ≡ true) → a ≡ b
-          go true b f h = sym (f refl)
-          go false true f h = h refl
-          go false false f h = refl
+  steps-fit Ps = tells-same (tells-fold Ps) (tells-offsets (forest (fold g Ps ∷ [])))
 
 -- Without growing no step passes.
 pub fold-fits-still : (Ps : List Encoding) → OffsetsFit (forest Ps) → foldFits false Ps ≡ true

@@ -48,6 +48,15 @@ tells-as f h s = record { so = λ e. f (s .so e); back = λ q. s .back (h q) }
 pub tells-and₃ : {a b c : Bool} {A B C : Type 0} → Tells a A → Tells b B → Tells c C → Tells (a && (b && c)) (A × B × C)
 tells-and₃ s t u = tells-as (λ p. (p .0, p .1 .0, p .1 .1)) (λ p. (p .0, (p .1, p .2))) (tells-and s (tells-and t u))
 
+-- two tests that say whether the same holds
+pub tells-same : {a b : Bool} {P : Type 0} → Tells a P → Tells b P → a ≡ b
+tells-same {a} {b} s t = go a b (λ e. t .back (s .so e)) (λ e. s .back (t .so e))
+  where
+    go : (a b : Bool) → (a ≡ true → b ≡ true) → (b ≡ true → a ≡ true) → a ≡ b
+    go true b f h = sym (f refl)
+    go false true f h = h refl
+    go false false f h = refl
+
 tells-all : {A : Type 0} (t : A → Bool) (M : A → Type 0) → ((a : A) → Tells (t a) (M a)) → (xs : List A) → Tells (allOk t xs) (All M xs)
 tells-all t M h [] = record { so = λ e. tt; back = λ u. refl }
 tells-all t M h (x ∷ xs) = tells-and (h x) (tells-all t M h xs)
