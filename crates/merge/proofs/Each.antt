@@ -11,6 +11,10 @@ abbrev pub Each : (List Row → List Range → Type 0) → Forest → Type 0
 Each N none = Unit {0}
 Each N (node r q w x) = N r q × Each N w × Each N x
 
+pub each-imp : {N N′ : List Row → List Range → Type 0} → ((r : List Row) (q : List Range) → N r q → N′ r q) → (f : Forest) → Each N f → Each N′ f
+each-imp h none t = tt
+each-imp h (node r q w x) (n, tw, tx) = (h r q n, each-imp h w tw, each-imp h x tx)
+
 module _ (N : List Row → List Range → Type 0) where
   each-append : (s t : List Encoding) → Each N (forest s) → Each N (forest t) → Each N (forest (s ++ t))
   each-append [] t u v = v
@@ -49,30 +53,38 @@ module _ (g : Bool) (N N′ M : List Row → List Range → Type 0)
       let each = withEach g (S .rows) (S .ranges) (eachWith g (S .below)) (P .below) in
       (closed (S .rows) (S .ranges) (P .rows) (P .ranges) n (p .0), each-append M (eachWith g (S .below) P) each (eachWith-each (S .below) t P p) (withEach-each (S .rows) (S .ranges) (eachWith g (S .below)) n (eachWith-each (S .below) t) (P .below) (p .1)), tt)
 
--- ---- From the join to an operand
+-- ---- From the join to its operands
+
+module _ (g : Bool) (M : List Row → List Range → Type 0) where
+  -- M holds of what a node of S and a node of P are joined to
+  abbrev Paired : List Row → List Range → List Row → List Range → Type 0
+  Paired r q rp qp = M (joinRows g r rp) (joinRanges (length r) q qp)
+
+  withEach-pairs : (r : List Row) (q : List Range) (below : Encoding → List Encoding) (f : Forest) → Each M (forest (withEach g r q below f)) → Each (Paired r q) f
+  unfolding withEach
+  withEach-pairs r q below none m = tt
+  withEach-pairs r q below (node rp qp wp x) (m, mw, mx) =
+      let p : Encoding = record { rows = rp; ranges = qp; below = wp } in
+      (m, withEach-pairs r q below wp (each-last M (below p) (withEach g r q below wp) mw), withEach-pairs r q below x mx)
+
+  eachWith-pairs : (f : Forest) (P : Encoding) → Each M (forest (eachWith g f P)) → Each (λ r q. Each (Paired r q) (forest (P ∷ []))) f
+  unfolding eachWith
+  eachWith-pairs none P m = tt
+  eachWith-pairs (node r q w x) P (m, mw, mx) =
+      let each = withEach g r q (eachWith g w) (P .below) in
+      ((m, withEach-pairs r q (eachWith g w) (P .below) (each-first M each (eachWith g x P) mx), tt), eachWith-pairs w P (each-first M (eachWith g w P) each mw), eachWith-pairs x P (each-last M each (eachWith g x P) mx))
+
+  -- Every node of S is joined with every node of P.
+  pub join-pairs : (S P : Encoding) → Each M (forest (join g S P ∷ [])) → Each (λ r q. Each (λ rp qp. M (joinRows g r rp) (joinRanges (length r) q qp)) (forest (P ∷ []))) (forest (S ∷ []))
+  unfolding join
+  join-pairs S P (m, mw, u) =
+      ((m, withEach-pairs (S .rows) (S .ranges) (eachWith g (S .below)) (P .below) (each-last M (eachWith g (S .below) P) _ mw), tt), eachWith-pairs (S .below) P (each-first M (eachWith g (S .below) P) _ mw), tt)
 
 module _ (g : Bool) (N M : List Row → List Range → Type 0) where
-  module _ (back : (r : List Row) (q : List Range) (rp : List Row) (qp : List Range) → M (joinRows g r rp) (joinRanges (length r) q qp) → N r q) where
-    eachWith-back : (f : Forest) (P : Encoding) → Each M (forest (eachWith g f P)) → Each N f
-    unfolding eachWith
-    eachWith-back none P m = tt
-    eachWith-back (node r q w x) P (m, mw, mx) =
-        let each = withEach g r q (eachWith g w) (P .below) in
-        (back r q (P .rows) (P .ranges) m, eachWith-back w P (each-first M (eachWith g w P) each mw), eachWith-back x P (each-last M each (eachWith g x P) mx))
+  pub join-each-left : ((r : List Row) (q : List Range) (rp : List Row) (qp : List Range) → M (joinRows g r rp) (joinRanges (length r) q qp) → N r q)
+      → (S P : Encoding) → Each M (forest (join g S P ∷ [])) → Each N (forest (S ∷ []))
+  join-each-left back S P h = each-imp (λ r q m. back r q (P .rows) (P .ranges) (m .0)) (forest (S ∷ [])) (join-pairs g M S P h)
 
-    pub join-each-left : (S P : Encoding) → Each M (forest (join g S P ∷ [])) → Each N (forest (S ∷ []))
-    unfolding join
-    join-each-left S P (m, mw, u) = (back (S .rows) (S .ranges) (P .rows) (P .ranges) m, eachWith-back (S .below) P (each-first M (eachWith g (S .below) P) _ mw), tt)
-
-  module _ (back : (r : List Row) (q : List Range) (rp : List Row) (qp : List Range) → M (joinRows g r rp) (joinRanges (length r) q qp) → N rp qp) where
-    withEach-back : (r : List Row) (q : List Range) (below : Encoding → List Encoding) (f : Forest) → Each M (forest (withEach g r q below f)) → Each N f
-    unfolding withEach
-    withEach-back r q below none m = tt
-    withEach-back r q below (node rp qp wp x) (m, mw, mx) =
-        let p : Encoding = record { rows = rp; ranges = qp; below = wp } in
-        (back r q rp qp m, withEach-back r q below wp (each-last M (below p) (withEach g r q below wp) mw), withEach-back r q below x mx)
-
-    pub join-each-right : (S P : Encoding) → Each M (forest (join g S P ∷ [])) → Each N (forest (P ∷ []))
-    unfolding join
-    join-each-right S P (m, mw, u) =
-        (back (S .rows) (S .ranges) (P .rows) (P .ranges) m, withEach-back (S .rows) (S .ranges) (eachWith g (S .below)) (P .below) (each-last M (eachWith g (S .below) P) _ mw), tt)
+  pub join-each-right : ((r : List Row) (q : List Range) (rp : List Row) (qp : List Range) → M (joinRows g r rp) (joinRanges (length r) q qp) → N rp qp)
+      → (S P : Encoding) → Each M (forest (join g S P ∷ [])) → Each N (forest (P ∷ []))
+  join-each-right back S P h = each-imp (λ rp qp m. back (S .rows) (S .ranges) rp qp m) (forest (P ∷ [])) (join-pairs g M S P h .0)

@@ -25,7 +25,7 @@ lastEnd-moved m n [] = refl
 lastEnd-moved m n (r ∷ t) = lastEnd-moved (r .offset-end) n t
 
 -- The last offset end adds up.
-base-join : (g : Bool) (s t : List Row) → base g (joinRows g s t) ≡ base g s + base g t
+pub base-join : (g : Bool) (s t : List Row) → base g (joinRows g s t) ≡ base g s + base g t
 base-join true s t =
     lastEnd-append 0 s (map (moved (lastEnd 0 s)) t) ∙ ap (λ (n : ℕ). lastEnd n (map (moved (lastEnd 0 s)) t)) (omega arith) ∙ lastEnd-moved 0 (lastEnd 0 s) t ∙ omega arith
 base-join false s t = refl
