@@ -1,2 +1,5 @@
 pub mod Seen
 pub mod Node
+pub mod InPlace
+pub mod Turning
+pub mod Moving
