@@ -2,15 +2,17 @@
 -- Assumes nothing.
 use mathlib.Core.Path.{_≡_, refl, sym, ap, ap₂, _∙_}
 use mathlib.Core.List.{List, [], _∷_, _++_, flatMap, append-assoc, append-nil}
-use Prim.Native.Nat.{ℕ, zero, suc, _+_, _*_, _≤_, _<_}
-use native.Mathlib.Nat.{add-zero, add-suc, suc-add}
+use Prim.Native.Nat.{ℕ, suc, _+_, _*_, _≤_, _<_}
+use native.Mathlib.Nat.{add-zero, add-suc, suc-mul, mul-le-mul-right}
 use native.Mathlib.Omega.{arith}
-use lib.ListN.{length, getD, take, drop, set, take-append-drop}
-use lib.Seq.{sets, sets-eq, length-sets, take-set-le, drop-set-lt, drop-set-add, drop-drop, drop-at, length-take-le, take-suc, split-at}
+use lib.ListN.{length, getD, take, drop, set, length-set, take-append-drop, List·getD-append}
+use lib.Seq.{sets, sets-eq, length-sets, take-set-le, drop-set-lt, drop-set-add, drop-drop, drop-at, length-take-le, take-suc, split-at, getD-drop}
 use Rattle.record.proofs.Flat.{Stored, length-numbers}
 use Rattle.record.proofs.Sets.{sets-append}
-use Rattle.making.proofs.Parts.{sets-front}
+use Rattle.making.proofs.Parts.{sets-left, sets-front}
+use Rattle.making.proofs.Runs.{numbers-set}
 use Rattle.merge.proofs.Lists.{flatMap-append}
+use Rattle.joint.specs.Parts.{Stands}
 
 -- ---- A list by its two parts at a place
 
@@ -24,13 +26,13 @@ take-before : (l : List ℕ) (i : ℕ) (zs : List ℕ) (n : ℕ) → n ≤ i →
 take-before l i [] n h = refl
 take-before l i (z ∷ zs) n h = take-before (set l i z) (suc i) zs n (omega arith) ∙ take-set-le n l i z h
 
-pub drop-past : (l : List ℕ) (i : ℕ) (zs : List ℕ) (n : ℕ) → i + length zs ≤ n → drop n (sets l i zs) ≡ drop n l
+drop-past : (l : List ℕ) (i : ℕ) (zs : List ℕ) (n : ℕ) → i + length zs ≤ n → drop n (sets l i zs) ≡ drop n l
 drop-past l i [] n h = refl
 drop-past l i (z ∷ zs) n h = drop-past (set l i z) (suc i) zs n (omega arith) ∙ drop-set-lt n l i z (omega arith)
 
--- a stretch from i on
-pub sets-inside : (l : List ℕ) (i : ℕ) (zs : List ℕ) → sets l i zs ≡ take i l ++ sets (drop i l) 0 zs
-sets-inside l i zs = sym (take-append-drop i (sets l i zs)) ∙ ap₂ _++_ (take-before l i zs i (omega arith)) (ap (λ (n : ℕ). drop i (sets l n zs)) (sym (add-zero i)) ∙ after l 0 zs)
+-- a stretch from k places after i on
+pub sets-inside : (l : List ℕ) (i k : ℕ) (zs : List ℕ) → sets l (i + k) zs ≡ take i l ++ sets (drop i l) k zs
+sets-inside l i k zs = sym (take-append-drop i (sets l (i + k) zs)) ∙ ap₂ _++_ (take-before l (i + k) zs i (omega arith)) (after l k zs)
   where
     after : (l : List ℕ) (k : ℕ) (zs : List ℕ) → drop i (sets l (i + k) zs) ≡ sets (drop i l) k zs
     after l k [] = refl
@@ -39,14 +41,25 @@ sets-inside l i zs = sym (take-append-drop i (sets l i zs)) ∙ ap₂ _++_ (take
         ∙ after (set l (i + k) z) (suc k) zs
         ∙ ap (λ (m : List ℕ). sets m (suc k) zs) (drop-set-add i l k z)
 
--- what stands there already changes nothing
-pub sets-there : (l : List ℕ) (i : ℕ) (zs rest : List ℕ) → drop i l ≡ zs ++ rest → sets l i zs ≡ l
-sets-there l i zs rest e =
-    sets-inside l i zs ∙ ap (take i l ++_) (ap (λ (m : List ℕ). sets m 0 zs) e ∙ sets-front zs rest zs refl ∙ sym e) ∙ take-append-drop i l
+-- ---- A stretch that stands somewhere
+
+module _ {l : List ℕ} {i : ℕ} {xs : List ℕ} (h : Stands l i xs) where
+  pub stands-number : (k : ℕ) → k < length xs → getD l (i + k) 0 ≡ getD xs k 0
+  stands-number k b = sym (getD-drop i l k 0) ∙ ap (λ (m : List ℕ). getD m k 0) (h .is) ∙ List·getD-append xs (h .rest) 0 k b
+
+  -- another written over it
+  pub stands-over : (ys : List ℕ) → length ys ≡ length xs → sets l i ys ≡ take i l ++ (ys ++ h .rest)
+  stands-over ys e =
+      ap (λ (n : ℕ). sets l n ys) (sym (add-zero i)) ∙ sets-inside l i 0 ys ∙ ap (take i l ++_) (ap (λ (m : List ℕ). sets m 0 ys) (h .is) ∙ sets-front xs (h .rest) ys e)
+
+  -- itself written over it
+  pub stands-same : sets l i xs ≡ l
+  stands-same = stands-over xs refl ∙ ap (take i l ++_) (sym (h .is)) ∙ take-append-drop i l
 
 -- what was written stands there
-pub sets-stand : (l : List ℕ) (i : ℕ) (zs : List ℕ) → i + length zs ≤ length l → drop i (sets l i zs) ≡ zs ++ drop (i + length zs) l
-sets-stand l i zs h = ap (drop i) (sets-eq zs l i h ∙ append-assoc (take i l) zs (drop (i + length zs) l)) ∙ drop-at (take i l) _ i (length-take-le i l (omega arith))
+pub sets-stand : (l : List ℕ) (i : ℕ) (zs : List ℕ) → i + length zs ≤ length l → Stands (sets l i zs) i zs
+sets-stand l i zs h =
+    record { rest = drop (i + length zs) l; is = ap (drop i) (sets-eq zs l i h ∙ append-assoc (take i l) zs (drop (i + length zs) l)) ∙ drop-at (take i l) _ i (length-take-le i l (omega arith)) }
 
 -- and may be written over
 pub sets-again : (l : List ℕ) (i : ℕ) (xs ys : List ℕ) → length xs ≡ length ys → i + length ys ≤ length l → sets (sets l i xs) i ys ≡ sets l i ys
@@ -65,17 +78,34 @@ module _ {A : Type 0} {width : ℕ} {numbers : A → List ℕ} {at : List ℕ �
   firsts-long : (ys : List A) (i : ℕ) → i ≤ length ys → length (flatMap numbers (take i ys)) ≡ i * width
   firsts-long ys i h = length-numbers s (take i ys) ∙ ap (_* width) (length-take-le i ys h)
 
-  -- the first i of ys are written over those of xs: the next of xs still stands there
-  pub next-stands : (l : List ℕ) (j : ℕ) (xs ys : List A) (rest : List ℕ) (i : ℕ) (d : A) → drop j l ≡ flatMap numbers xs ++ rest → length ys ≡ length xs → i < length xs
-      → drop (j + i * width) (sets l j (flatMap numbers (take i ys))) ≡ numbers (getD xs i d) ++ (flatMap numbers (drop (suc i) xs) ++ rest)
+  -- one of those that stand at j
+  pub element-stands : (l : List ℕ) (j : ℕ) (xs : List A) (i : ℕ) (d : A) → Stands l j (flatMap numbers xs) → i < length xs → Stands l (j + i * width) (numbers (getD xs i d))
   unfolding flatMap
-  next-stands l j xs ys rest i d e n h =
-      let whole : flatMap numbers xs ≡ flatMap numbers (take i xs) ++ (numbers (getD xs i d) ++ flatMap numbers (drop (suc i) xs)) = ap (flatMap numbers) (split-at xs i d h) ∙ flatMap-append numbers (take i xs) (getD xs i d ∷ drop (suc i) xs) in
-      drop-past l j (flatMap numbers (take i ys)) (j + i * width) (omega (arith, firsts-long ys i (omega arith)))
-      ∙ sym (drop-drop (i * width) j l)
-      ∙ ap (drop (i * width)) (e ∙ ap (_++ rest) whole ∙ append-assoc (flatMap numbers (take i xs)) _ rest)
-      ∙ drop-at (flatMap numbers (take i xs)) _ (i * width) (firsts-long xs i (omega arith))
-      ∙ append-assoc (numbers (getD xs i d)) _ rest
+  element-stands l j xs i d h k =
+      let whole : flatMap numbers xs ≡ flatMap numbers (take i xs) ++ (numbers (getD xs i d) ++ flatMap numbers (drop (suc i) xs)) = ap (flatMap numbers) (split-at xs i d k) ∙ flatMap-append numbers (take i xs) (getD xs i d ∷ drop (suc i) xs) in
+      record {
+        rest = flatMap numbers (drop (suc i) xs) ++ h .rest;
+        is = sym (drop-drop (i * width) j l)
+            ∙ ap (drop (i * width)) (h .is ∙ ap (_++ h .rest) whole ∙ append-assoc (flatMap numbers (take i xs)) _ (h .rest))
+            ∙ drop-at (flatMap numbers (take i xs)) _ (i * width) (firsts-long xs i (omega arith))
+            ∙ append-assoc (numbers (getD xs i d)) _ (h .rest);
+      }
+
+  -- one of them written over
+  pub element-set : (l : List ℕ) (j : ℕ) (xs : List A) (k : ℕ) (y : A) → Stands l j (flatMap numbers xs) → k < length xs → sets l (j + k * width) (numbers y) ≡ sets l j (flatMap numbers (set xs k y))
+  element-set l j xs k y h b =
+      let ys = flatMap numbers (set xs k y) in
+      sets-inside l j (k * width) (numbers y)
+      ∙ ap (take j l ++_) (ap (λ (m : List ℕ). sets m (k * width) (numbers y)) (h .is)
+      ∙ sets-left (flatMap numbers xs) (h .rest) (k * width) (numbers y) (omega (arith, s .long y, length-numbers s xs, suc-mul k width, mul-le-mul-right width b))
+      ∙ ap (_++ h .rest) (numbers-set s xs k y b))
+      ∙ sym (stands-over h ys (length-numbers s (set xs k y) ∙ ap (_* width) (length-set xs k y) ∙ sym (length-numbers s xs)))
+
+  -- the first i of ys are written over those of xs: the next of xs still stands there
+  pub next-stands : (l : List ℕ) (j : ℕ) (xs ys : List A) (i : ℕ) (d : A) → Stands l j (flatMap numbers xs) → length ys ≡ length xs → i < length xs → Stands (sets l j (flatMap numbers (take i ys))) (j + i * width) (numbers (getD xs i d))
+  next-stands l j xs ys i d h n k =
+      let e = element-stands l j xs i d h k in
+      record { rest = e .rest; is = drop-past l j (flatMap numbers (take i ys)) (j + i * width) (omega (arith, firsts-long ys i (omega arith))) ∙ e .is }
 
   -- and the next of ys is written over it
   pub next-written : (l : List ℕ) (j : ℕ) (ys : List A) (i : ℕ) (d : A) → i < length ys

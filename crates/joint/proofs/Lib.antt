@@ -3,3 +3,7 @@ pub mod Node
 pub mod InPlace
 pub mod Turning
 pub mod Moving
+pub mod Nodes
+pub mod Laying
+pub mod Numbers
+pub mod Whole

@@ -1,6 +1,6 @@
 -- Rows of P after those of S: by how much they move, and that copying them and then changing their columns writes them.
 -- Assumes nothing.
-use mathlib.Core.Path.{_≡_, refl, sym, ap, subst, _∙_}
+use mathlib.Core.Path.{_≡_, refl, sym, ap, ap₂, subst, _∙_}
 use mathlib.Core.Bool.{Bool, true, false}
 use mathlib.Core.List.{List, [], _∷_, flatMap, map, map-map}
 use Prim.Native.Nat.{ℕ, zero, suc, _+_, _*_, _-_, _≤_, _<_}
@@ -11,11 +11,13 @@ use Rattle.record.specs.Tree.{Row}
 use Rattle.record.specs.Flat.{rowWidth, rowNumbers}
 use Rattle.record.specs.Standing.{RowsAt}
 use Rattle.record.proofs.Flat.{length-numbers, row-stored, several-at}
+use Rattle.record.proofs.Sets.{sets-append}
+use Rattle.record.proofs.Walk.{numbers-append}
 use Rattle.merge.specs.Join.{moved, lastEnd, base}
 use Rattle.joint.specs.declared.View.{View}
 use Rattle.joint.specs.declared.View.the-variants.{Plain, Window, Piece}
 use Rattle.joint.specs.View.{typed, rowsSeen}
-use Rattle.joint.specs.Parts.{AskMoved, MakesRows, movedRows}
+use Rattle.joint.specs.Parts.{AskMoved, MakesRows, movedRows, AskOwn, WritesOwn}
 use Rattle.joint.proofs.Seen.{length-rows-seen}
 use Rattle.joint.proofs.InPlace.{sets-stand, sets-again}
 use Rattle.joint.proofs.Turning.{blank, rows-there}
@@ -49,7 +51,9 @@ base-last {rows} {j} {count} R h e k =
 -- ---- Rows written, and then changed in place
 
 pub rows-stand : (out : List ℕ) {at : ℕ} {R : List Row} → at + length R * rowWidth ≤ length out → RowsAt (sets out at (flatMap rowNumbers R)) at R
-rows-stand out {at} {R} h = record { rest = drop (at + length (flatMap rowNumbers R)) out; is = sets-stand out at (flatMap rowNumbers R) (omega (arith, length-numbers row-stored R)) }
+rows-stand out {at} {R} h =
+    let s = sets-stand out at (flatMap rowNumbers R) (omega (arith, length-numbers row-stored R)) in
+    record { rest = s .rest; is = s .is }
 
 -- a block of numbers copied
 pub makes-copy : {rows out out₁ : List ℕ} {j count at : ℕ} → out₁ ≡ sets out at (take (count * rowWidth) (drop j rows)) → MakesRows (λ R. R) rows j count out at out₁
@@ -95,3 +99,25 @@ pub makes-moved : {rows out out₁ out₂ out₃ : List ℕ} {j count at : ℕ} 
 makes-moved {rows} {out} {out₁} {out₂} {out₃} {j} {count} {at} v n fits e p q =
     let changed = makes-then (λ R. length-map R (moved n)) (length-rows-seen v) fits (makes-then (λ R. refl) (λ R. length-map R (moved n)) fits (makes-copy e) p) q in
     record { made = λ R h k. changed .made R h k ∙ ap (λ (rs : List Row). sets out at (flatMap rowNumbers rs)) (seen-moved v n R) }
+
+-- ---- After the rows of S
+
+module _ {rows : List ℕ} {j count : ℕ} {rows′ : List ℕ} {j′ count′ : ℕ} {g : Bool} {out : List ℕ} {at b : ℕ} {copied : List ℕ} (moves : (R : List Row) → RowsAt rows j R → length R ≡ count → b ≡ base g R) (e : copied ≡ sets out at (take (count * rowWidth) (drop j rows))) where
+  pub own-asks : AskOwn rows j count rows′ j′ count′ g out at → (AskMoved rows′ j′ count′ b) × (at + count * rowWidth + count′ * rowWidth ≤ length copied)
+  own-asks ask = (
+    record { R = ask .R′; there = ask .there′; size = ask .size′; within = rw (moves (ask .R) (ask .there) (ask .size)) (ask .within); inside = ask .inside′ },
+    omega (arith, ask .fits, ap length e, length-sets out at (take (count * rowWidth) (drop j rows))),
+  )
+
+  pub own-written : {out₁ : List ℕ} (v : View) → MakesRows (movedRows v b) rows′ j′ count′ copied (at + count * rowWidth) out₁ → WritesOwn rows j count rows′ j′ count′ v g out at out₁
+  own-written v m =
+      record {
+        own = λ R R′ h n h′ n′.
+            let X = flatMap rowNumbers R in
+            let long : at + count * rowWidth ≡ at + length X = omega (arith, length-numbers row-stored R) in
+            m .made R′ h′ n′
+            ∙ ap (λ (n : ℕ). sets copied (at + count * rowWidth) (flatMap rowNumbers (movedRows v n R′))) (moves R h n)
+            ∙ ap₂ (λ (l : List ℕ) (i : ℕ). sets l i (flatMap rowNumbers (movedRows v (base g R) R′))) (makes-copy e .made R h n) long
+            ∙ sets-append out at X (flatMap rowNumbers (movedRows v (base g R) R′))
+            ∙ ap (sets out at) (sym (numbers-append R (movedRows v (base g R) R′)));
+      }

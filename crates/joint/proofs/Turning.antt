@@ -5,8 +5,8 @@ use mathlib.Core.List.{List, [], _∷_, _++_, flatMap, map}
 use Prim.Native.Nat.{ℕ, zero, suc, _+_, _*_, _≤_, _<_}
 use native.Mathlib.Numerals.{add-one}
 use native.Mathlib.Omega.{arith}
-use lib.ListN.{length, getD, take, drop, set, length-map, List·getD-map, length-set}
-use lib.Seq.{sets, getD-drop, take-all, take-set-le, drop-set-add, length-sets}
+use lib.ListN.{length, getD, take, set, length-map, List·getD-map}
+use lib.Seq.{sets, take-all, take-set-le, drop-set-add}
 use Rattle.record.specs.Tree.{Row, All}
 use Rattle.record.specs.Flat.{rowWidth, rowNumbers}
 use Rattle.record.specs.Standing.{RowsAt}
@@ -15,49 +15,49 @@ use Rattle.merge.specs.Join.{moved}
 use Rattle.joint.specs.View.{typed}
 use Rattle.merge.specs.Offsets.{mostOffset}
 use Rattle.merge.proofs.Units.{moved-zeros}
-use Rattle.joint.specs.Parts.{AskMoved, MakesRows}
-use Rattle.joint.proofs.InPlace.{set-inside, sets-inside, sets-there, next-stands, next-written}
+use Rattle.joint.specs.Parts.{AskMoved, MakesRows, Stands}
+use Rattle.joint.proofs.InPlace.{set-inside, stands-number, stands-over, stands-same, next-stands, next-written}
 
 -- what stands where no row is
 abbrev pub blank : Row
 blank = record { id = 0; type-id = 0; pool = 0; text-start = 0; text-length = 0; word-mark = 0; word = 0; offset-start = 0; offset-end = 0; special = 0; attention = 0 }
 
-all-get : {A : Type 0} (M : A → Type 0) (xs : List A) (i : ℕ) (d : A) → i < length xs → All M xs → M (getD xs i d)
+pub all-get : {A : Type 0} (M : A → Type 0) (xs : List A) (i : ℕ) (d : A) → i < length xs → All M xs → M (getD xs i d)
 all-get M [] i d h u = absurd (omega arith)
 all-get M (x ∷ xs) zero d h (m, ms) = m
 all-get M (x ∷ xs) (suc i) d h (m, ms) = all-get M xs i d (omega arith) ms
 
 -- ---- One row
 
--- what is at place i of l is the row r
-abbrev pub RowAt : List ℕ → ℕ → Row → Type 0
-RowAt l i r = (rest : List ℕ) × (drop i l ≡ rowNumbers r ++ rest)
-
-pub typed-there : (l : List ℕ) (i t : ℕ) (r : Row) → RowAt l i r → set l (i + 1) t ≡ sets l i (rowNumbers (typed t r))
+-- its type written
+pub typed-there : (l : List ℕ) (i t : ℕ) (r : Row) → Stands l i (rowNumbers r) → set l (i + 1) t ≡ sets l i (rowNumbers (typed t r))
 unfolding rowNumbers
-typed-there l i t r (rest, e) =
-    set-inside l i 1 t ∙ ap (λ (m : List ℕ). take i l ++ set m 1 t) e
-    ∙ sym (sets-inside l i (rowNumbers (typed t r)) ∙ ap (λ (m : List ℕ). take i l ++ sets m 0 (rowNumbers (typed t r))) e)
+typed-there l i t r h =
+    set-inside l i 1 t ∙ ap (λ (m : List ℕ). take i l ++ set m 1 t) (h .is) ∙ sym (stands-over h (rowNumbers (typed t r)) refl)
 
-offsets-there : (l : List ℕ) (i : ℕ) (r : Row) → RowAt l i r → (getD l (i + 7) 0 ≡ r .offset-start) × (getD l (i + 8) 0 ≡ r .offset-end)
+-- its offsets read, and written
+offsets-there : (l : List ℕ) (i : ℕ) (r : Row) → Stands l i (rowNumbers r) → (getD l (i + 7) 0 ≡ r .offset-start) × (getD l (i + 8) 0 ≡ r .offset-end)
 unfolding rowNumbers
-offsets-there l i r (rest, e) = (sym (getD-drop i l 7 0) ∙ ap (λ (m : List ℕ). getD m 7 0) e, sym (getD-drop i l 8 0) ∙ ap (λ (m : List ℕ). getD m 8 0) e)
+offsets-there l i r h = (stands-number h 7 (omega arith), stands-number h 8 (omega arith))
 
-pub moved-there : (l : List ℕ) (i n : ℕ) (r : Row) → RowAt l i r → set (set l (i + 7) (getD l (i + 7) 0 + n)) (i + 8) (getD l (i + 8) 0 + n) ≡ sets l i (rowNumbers (moved n r))
+pub moved-there : (l : List ℕ) (i n : ℕ) (r : Row) → Stands l i (rowNumbers r) → set (set l (i + 7) (getD l (i + 7) 0 + n)) (i + 8) (getD l (i + 8) 0 + n) ≡ sets l i (rowNumbers (moved n r))
 unfolding rowNumbers
-moved-there l i n r (rest, e) =
-    let o = offsets-there l i r (rest, e) in
+moved-there l i n r h =
+    let o = offsets-there l i r h in
     ap₂ (λ (a b : ℕ). set (set l (i + 7) (a + n)) (i + 8) (b + n)) (o .0) (o .1)
     ∙ set-inside (set l (i + 7) (r .offset-start + n)) i 8 (r .offset-end + n)
     ∙ ap₂ (λ (a b : List ℕ). a ++ set b 8 (r .offset-end + n)) (take-set-le i l (i + 7) (r .offset-start + n) (omega arith)) (drop-set-add i l 7 (r .offset-start + n))
-    ∙ ap (λ (m : List ℕ). take i l ++ set (set m 7 (r .offset-start + n)) 8 (r .offset-end + n)) e
-    ∙ sym (sets-inside l i (rowNumbers (moved n r)) ∙ ap (λ (m : List ℕ). take i l ++ sets m 0 (rowNumbers (moved n r))) e)
+    ∙ ap (λ (m : List ℕ). take i l ++ set (set m 7 (r .offset-start + n)) 8 (r .offset-end + n)) (h .is)
+    ∙ sym (stands-over h (rowNumbers (moved n r)) refl)
 
 -- ---- Nothing to change
 
+pub rows-stretch : {rows : List ℕ} {j : ℕ} {R : List Row} → RowsAt rows j R → Stands rows j (flatMap rowNumbers R)
+rows-stretch h = record { rest = h .rest; is = h .is }
+
 -- rows that stand there, written once more
 pub rows-there : {rows : List ℕ} {j : ℕ} {R : List Row} → RowsAt rows j R → rows ≡ sets rows j (flatMap rowNumbers R)
-rows-there {rows} {j} {R} h = sym (sets-there rows j (flatMap rowNumbers R) (h .rest) (h .is))
+rows-there h = sym (stands-same (rows-stretch h))
 
 pub unmoved : {rows : List ℕ} {j count n : ℕ} → n ≡ 0 → MakesRows (map (moved n)) rows j count rows j rows
 unmoved {rows} {j} {count} {n} e =
@@ -77,11 +77,11 @@ unfolding flatMap
 turning-start f before j count = record { within = omega arith; place-is = omega arith; long = refl; changed = λ R h n. refl }
 
 module _ {f : Row → Row} {before : List ℕ} {j count : ℕ} {now : List ℕ} {place i : ℕ} (t : Turning f before j count now place i) where
-  pub turning-row : (R : List Row) → RowsAt before j R → length R ≡ count → i < count → (d : Row) → RowAt now place (getD R i d)
+  pub turning-row : (R : List Row) → RowsAt before j R → length R ≡ count → i < count → (d : Row) → Stands now place (rowNumbers (getD R i d))
   turning-row R h n k d =
-      (_, ap₂ (λ (p : ℕ) (l : List ℕ). drop p l) (t .place-is) (t .changed R h n) ∙ next-stands row-stored before j R (map f R) (h .rest) i d (h .is) (length-map R f) (omega arith))
+      rw (t .place-is, t .changed R h n) (next-stands row-stored before j R (map f R) i d (rows-stretch h) (length-map R f) (omega arith))
 
-  pub turning-on : {now′ : List ℕ} → i < count → length now′ ≡ length now → ((r : Row) → RowAt now place r → now′ ≡ sets now place (rowNumbers (f r))) → Turning f before j count now′ (place + rowWidth) (i + 1)
+  pub turning-on : {now′ : List ℕ} → i < count → length now′ ≡ length now → ((r : Row) → Stands now place (rowNumbers r) → now′ ≡ sets now place (rowNumbers (f r))) → Turning f before j count now′ (place + rowWidth) (i + 1)
   turning-on {now′} k l step =
       record {
         within = omega arith;

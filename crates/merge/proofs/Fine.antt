@@ -30,7 +30,7 @@ joined-ranges-fine m n k [] ps e u v = tt
 joined-ranges-fine m n k (s ∷ ss) [] e u v = tt
 joined-ranges-fine m n k (s ∷ ss) (p ∷ ps) e (u, us) (v, vs) = (choose-fine m n k s p e u v, joined-ranges-fine m n k ss ps e us vs)
 
-length-joinRanges : (m k : ℕ) (ss ps : List Range) → length ss ≡ k → length ps ≡ k → length (joinRanges m ss ps) ≡ k
+pub length-joinRanges : (m k : ℕ) (ss ps : List Range) → length ss ≡ k → length ps ≡ k → length (joinRanges m ss ps) ≡ k
 length-joinRanges m k [] ps e o = e
 length-joinRanges m k (s ∷ ss) [] e o = o
 length-joinRanges m zero (s ∷ ss) (p ∷ ps) e o = absurd (omega arith)
