@@ -7,3 +7,4 @@ pub mod Nodes
 pub mod Laying
 pub mod Numbers
 pub mod Whole
+pub mod Appending

@@ -2,7 +2,7 @@
 -- Assumes nothing.
 use mathlib.Core.Path.{_≡_, sym, ap, ap₂, _∙_}
 use mathlib.Core.Bool.{Bool}
-use mathlib.Core.List.{List, [], _∷_, _++_, map, flatMap, append-assoc}
+use mathlib.Core.List.{List, [], _∷_, _++_, map, flatMap, append-assoc, append-nil}
 use Prim.Native.Nat.{ℕ, _+_, _*_}
 use native.Mathlib.Omega.{arith}
 use lib.ListN.{length}
@@ -19,7 +19,7 @@ use Rattle.merge.proofs.Written.{join-nodes, join-rows-flat}
 use Rattle.joint.specs.declared.View.{View}
 use Rattle.joint.specs.View.{below, rowsSeen, rangesSeen, seen}
 use Rattle.joint.specs.Node.{nodeNumbers, ownNumbers}
-use Rattle.joint.proofs.Seen.{length-rows-seen, tops-seen, node-fine-seen}
+use Rattle.joint.proofs.Seen.{seen-windows, length-rows-seen, tops-seen, node-fine-seen}
 
 module _ (g : Bool) (v : View) (S P : Encoding) where
   pub node-then-windows : nodeNumbers v S P ++ flatNodes (forest (joinWindows g S (seen v P))) ≡ flatNodes (forest (join g S (seen v P) ∷ []))
@@ -47,3 +47,21 @@ module _ (g : Bool) (v : View) (S P : Encoding) where
   own-long =
       length-numbers row-stored (joinRows g (S .rows) (rowsSeen v (P .rows)))
       ∙ ap (_* rowWidth) (length-joinRows g (S .rows) (rowsSeen v (P .rows)) ∙ ap (length (S .rows) +_) (length-rows-seen v (P .rows)))
+
+  -- ---- Without windows
+
+  module _ (s : windows S ≡ []) (p : windows P ≡ []) where
+    no-windows : joinWindows g S (seen v P) ≡ []
+    unfolding flatMap
+    no-windows =
+        ap₂ (λ (ss ps : List Encoding). flatMap (λ s. join g s (seen v P) ∷ map (join g s) (windows (seen v P))) ss ++ map (join g S) ps) s (seen-windows v P ∙ ap (map (seen (below v))) p)
+
+    pub node-alone : flatNodes (forest (join g S (seen v P) ∷ [])) ≡ nodeNumbers v S P
+    unfolding flatNodes
+    node-alone =
+        sym node-then-windows ∙ ap (λ (ws : List Encoding). nodeNumbers v S P ++ flatNodes (forest ws)) no-windows ∙ append-nil (nodeNumbers v S P)
+
+    pub rows-alone : flatRows (forest (join g S (seen v P) ∷ [])) ≡ ownNumbers g v S P
+    unfolding flatRows
+    rows-alone =
+        sym rows-then-windows ∙ ap (λ (ws : List Encoding). ownNumbers g v S P ++ flatRows (forest ws)) no-windows ∙ append-nil (ownNumbers g v S P)

@@ -1,3 +1,4 @@
 pub mod View
 pub mod Node
 pub mod Parts
+pub mod Appending

@@ -11,6 +11,7 @@ ghost use Rattle.making.specs.Writing.{presentRange};
 ghost use Rattle.merge.specs.Join.{moved, base, shifted};
 ghost use Rattle.joint.specs.View.{typed, rowsSeen};
 ghost use Rattle.joint.specs.Node.{ViewFine, AskNode, WritesNode};
+ghost use Rattle.joint.specs.Appending.{AskAppend, Appends};
 ghost use Rattle.joint.specs.Parts.{AskMoved, MakesRows, movedRows, AskRange, LaysRange, wholeLaid, MakesRanges, AskRanges, LaysRanges, AskNumbers, WritesNumbers, AskOwn, WritesOwn};
 use record::Column;
 use record::Encoding;
@@ -266,4 +267,36 @@ pub fn write_node(
         node: node + Encoding::NODE_WIDTH,
         row: row + (count + p_count) * Encoding::ROW_WIDTH,
     }
+}
+
+// The encoding at p, seen through the view, joined with the one that stands at the front of the output, in its place.
+// Neither has windows: rows are put after rows, and nothing is copied that stays.
+pub fn append_node(
+    p_nodes: &[u32],
+    p_rows: &[u32],
+    p: Spot,
+    view: View,
+    growing: bool,
+    out_nodes: &mut [u32],
+    out_rows: &mut [u32],
+)
+    requires { ⌜ AskAppend (now «p_nodes») (now «p_rows») p view growing (now «out_nodes») (now «out_rows») ⌝ }
+    ensures { λ _. ⌜ Appends (now («p_nodes» .entry)) (now («p_rows» .entry)) p view growing (now («out_nodes» .entry)) (now («out_rows» .entry)) (now («out_nodes» .exit)) (now («out_rows» .exit)) ⌝ }
+{
+    let k = p.node;
+    let shift = out_nodes[0];
+    let count = wide(shift);
+    let p_count = wide(p_nodes[k]);
+    let base = base_of(out_rows, 0, count, growing);
+    out_nodes[0] = shift + p_nodes[k];
+    lay_ranges(out_nodes, 0, shift, p_nodes, k, view);
+    copy_moved(
+        p_rows,
+        p.row,
+        p_count,
+        base,
+        view,
+        out_rows,
+        count * Encoding::ROW_WIDTH,
+    );
 }
