@@ -8,3 +8,4 @@ pub mod Laying
 pub mod Numbers
 pub mod Whole
 pub mod Appending
+pub mod Offsets
