@@ -20,11 +20,11 @@ module _ (N : List Row → List Range → Type 0) where
   each-append [] t u v = v
   each-append (E ∷ s) t (n, w, x) v = (n, w, each-append s t x v)
 
-  each-first : (s t : List Encoding) → Each N (forest (s ++ t)) → Each N (forest s)
+  pub each-first : (s t : List Encoding) → Each N (forest (s ++ t)) → Each N (forest s)
   each-first [] t u = tt
   each-first (E ∷ s) t (n, w, x) = (n, w, each-first s t x)
 
-  each-last : (s t : List Encoding) → Each N (forest (s ++ t)) → Each N (forest t)
+  pub each-last : (s t : List Encoding) → Each N (forest (s ++ t)) → Each N (forest t)
   each-last [] t u = u
   each-last (E ∷ s) t (n, w, x) = each-last s t x
 
