@@ -1,0 +1,5 @@
+pub mod Windowless
+pub mod Sizes
+pub mod Deciding
+pub mod Working
+pub mod Demand
