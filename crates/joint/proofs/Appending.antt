@@ -3,21 +3,21 @@
 use mathlib.Core.Path.{_≡_, sym, ap, ap₂, _∙_}
 use mathlib.Core.Bool.{Bool}
 use mathlib.Core.List.{List, [], _∷_, flatMap}
-use Prim.Native.Nat.{ℕ, suc, _+_, _*_, _≤_}
+use Prim.Native.Nat.{ℕ, _+_, _*_, _≤_}
 use native.Mathlib.Omega.{arith}
 use lib.ListN.{length, getD, set, length-set}
 use lib.Seq.{sets, drop-set-lt, set-getD, getD-set-other}
-use Rattle.record.specs.Tree.{Row, Encoding, forest, windows}
+use Rattle.record.specs.Tree.{Row, Encoding, windows}
 use Rattle.record.specs.Flat.{rowWidth, rowNumbers, rangeNumbers}
-use Rattle.record.specs.Standing.{Here, Put, RowsAt}
+use Rattle.record.specs.Standing.{RowsAt}
 use Rattle.record.proofs.Flat.{length-numbers, row-stored}
 use Rattle.record.proofs.Sets.{sets-append}
 use Rattle.record.proofs.Walk.{numbers-append}
 use Rattle.record.proofs.Here.{here-own}
-use Rattle.merge.specs.Join.{base, joinRanges, join, windowCount}
+use Rattle.merge.specs.Join.{base, joinRanges, windowCount}
 use Rattle.joint.specs.declared.View.{View}
 use Rattle.joint.specs.declared.Spot.{Spot}
-use Rattle.joint.specs.View.{rangesSeen, seen}
+use Rattle.joint.specs.View.{rangesSeen}
 use Rattle.joint.specs.Node.{nodeNumbers, ownNumbers}
 use Rattle.joint.specs.Parts.{AskMoved, MakesRows, movedRows, rangesOf, RangesAt, NodeAt, AskRanges, LaysRanges}
 use Rattle.joint.specs.Appending.{AskAppend, Appends}
@@ -69,13 +69,20 @@ module _ {nodes rows : List ℕ} {p : Spot} {v : View} {out out′ : List ℕ} w
         let s = here-node (ask .here-s) in
         record { P = ask .P; there = here-node (ask .here-p); view-fine = ask .view-fine; few-rows = omega (arith, node-count s, ask .few-rows); fits = omega (arith, length-set out 0 (getD out 0 0 + getD nodes (p .node) 0), s .inside) }
 
-    pub asks-rows : {b count count′ : ℕ} → ((R : List Row) → RowsAt out′ 0 R → length R ≡ count → b ≡ base g R) → count ≡ getD out 0 0 → count′ ≡ getD nodes (p .node) 0 → (AskMoved rows (p .row) count′ b) × (count * rowWidth + count′ * rowWidth ≤ length out′)
-    asks-rows {b} {count} {count′} moves e f =
-        let n = e ∙ node-count (here-node (ask .here-s)) in
-        let m = f ∙ node-count (here-node (ask .here-p)) in (
-          record { R = ask .P .rows; there = here-own (ask .here-p); size = sym m; within = rw (moves (ask .S .rows) (here-own (ask .here-s)) (sym n)) (ask .within); inside = omega (arith, m, own-inside (ask .here-p)) },
-          omega (arith, n, m, ask .rows-fit),
-        )
+    module _ {count count′ : ℕ} (e : count ≡ getD out 0 0) (f : count′ ≡ getD nodes (p .node) 0) where
+      counted : length (ask .S .rows) ≡ count
+      counted = sym (e ∙ node-count (here-node (ask .here-s)))
+
+      counted′ : length (ask .P .rows) ≡ count′
+      counted′ = sym (f ∙ node-count (here-node (ask .here-p)))
+
+      -- room for the rows of both
+      pub rows-room : count * rowWidth + count′ * rowWidth ≤ length out′
+      rows-room = omega (arith, counted, counted′, ask .rows-fit)
+
+      pub asks-rows : {b : ℕ} → ((R : List Row) → RowsAt out′ 0 R → length R ≡ count → b ≡ base g R) → AskMoved rows (p .row) count′ b
+      asks-rows moves =
+          record { R = ask .P .rows; there = here-own (ask .here-p); size = counted′; within = rw (moves (ask .S .rows) (here-own (ask .here-s)) counted) (ask .within); inside = omega (arith, counted′, own-inside (ask .here-p)) }
 
   pub appends : (g : Bool) {b count count′ : ℕ} {out₁ out₁′ : List ℕ} → ((R : List Row) → RowsAt out′ 0 R → length R ≡ count → b ≡ base g R) → count ≡ getD out 0 0 → count′ ≡ getD nodes (p .node) 0
       → LaysRanges v (set out 0 (getD out 0 0 + getD nodes (p .node) 0)) 0 (getD out 0 0) nodes (p .node) out₁ → MakesRows (movedRows v b) rows (p .row) count′ out′ (count * rowWidth) out₁′

@@ -11,7 +11,7 @@ use lib.ListN.{length, getD, take, set, length-set}
 use lib.Seq.{sets, take-all}
 use Rattle.record.specs.Tree.{Range, Encoding, sequences, absent}
 use Rattle.record.specs.Flat.{nodeWidth, rangeNumbers}
-use Rattle.record.specs.WellFormed.{RangeFine, mostRows}
+use Rattle.record.specs.WellFormed.{RangeFine}
 use Rattle.record.proofs.Flat.{length-numbers, range-stored}
 use Rattle.making.specs.Writing.{presentRange}
 use Rattle.merge.specs.Join.{shifted, choose, joinRanges}

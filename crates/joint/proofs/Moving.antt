@@ -3,7 +3,7 @@
 use mathlib.Core.Path.{_≡_, refl, sym, ap, ap₂, subst, _∙_}
 use mathlib.Core.Bool.{Bool, true, false}
 use mathlib.Core.List.{List, [], _∷_, flatMap, map, map-map}
-use Prim.Native.Nat.{ℕ, zero, suc, _+_, _*_, _-_, _≤_, _<_}
+use Prim.Native.Nat.{ℕ, suc, _+_, _*_, _-_, _≤_, _<_}
 use native.Mathlib.Omega.{arith}
 use lib.ListN.{length, getD, take, drop, length-map}
 use lib.Seq.{sets, take-at, length-sets, getD-drop}
@@ -102,15 +102,12 @@ makes-moved {rows} {out} {out₁} {out₂} {out₃} {j} {count} {at} v n fits e 
 
 -- ---- After the rows of S
 
-module _ {rows : List ℕ} {j count : ℕ} {rows′ : List ℕ} {j′ count′ : ℕ} {g : Bool} {out : List ℕ} {at b : ℕ} {copied : List ℕ} (moves : (R : List Row) → RowsAt rows j R → length R ≡ count → b ≡ base g R) (e : copied ≡ sets out at (take (count * rowWidth) (drop j rows))) where
-  pub own-asks : AskOwn rows j count rows′ j′ count′ g out at → (AskMoved rows′ j′ count′ b) × (at + count * rowWidth + count′ * rowWidth ≤ length copied)
-  own-asks ask = (
-    record { R = ask .R′; there = ask .there′; size = ask .size′; within = rw (moves (ask .R) (ask .there) (ask .size)) (ask .within); inside = ask .inside′ },
-    omega (arith, ask .fits, ap length e, length-sets out at (take (count * rowWidth) (drop j rows))),
-  )
+module _ {rows : List ℕ} {j count : ℕ} {rows′ : List ℕ} {j′ count′ : ℕ} {g : Bool} {out : List ℕ} {at b : ℕ} (moves : (R : List Row) → RowsAt rows j R → length R ≡ count → b ≡ base g R) where
+  pub own-asks : AskOwn rows j count rows′ j′ count′ g out at → AskMoved rows′ j′ count′ b
+  own-asks ask = record { R = ask .R′; there = ask .there′; size = ask .size′; within = rw (moves (ask .R) (ask .there) (ask .size)) (ask .within); inside = ask .inside′ }
 
-  pub own-written : {out₁ : List ℕ} (v : View) → MakesRows (movedRows v b) rows′ j′ count′ copied (at + count * rowWidth) out₁ → WritesOwn rows j count rows′ j′ count′ v g out at out₁
-  own-written v m =
+  pub own-written : {copied out₁ : List ℕ} (v : View) → copied ≡ sets out at (take (count * rowWidth) (drop j rows)) → MakesRows (movedRows v b) rows′ j′ count′ copied (at + count * rowWidth) out₁ → WritesOwn rows j count rows′ j′ count′ v g out at out₁
+  own-written {copied} v e m =
       record {
         own = λ R R′ h n h′ n′.
             let X = flatMap rowNumbers R in

@@ -6,7 +6,7 @@ use mathlib.Core.List.{List, [], _∷_, _++_, map, flatMap, append-assoc, append
 use Prim.Native.Nat.{ℕ, _+_, _*_}
 use native.Mathlib.Omega.{arith}
 use lib.ListN.{length}
-use Rattle.record.specs.Tree.{Range, Encoding, forest, windows, sequences}
+use Rattle.record.specs.Tree.{Encoding, forest, windows, sequences}
 use Rattle.record.specs.Flat.{rowWidth, nodeWidth, rowNumbers, rangeNumbers, flatNodes, flatRows}
 use Rattle.record.specs.WellFormed.{NodeFine}
 use Rattle.record.proofs.Flat.{length-numbers, row-stored, range-stored, node-width}

@@ -1,13 +1,13 @@
 -- The numbers of the node of a join: its counts written, S's ranges copied, and P's laid over them.
 -- Assumes nothing.
-use mathlib.Core.Path.{_≡_, sym, ap, ap₂, _∙_}
+use mathlib.Core.Path.{_≡_, ap, ap₂, _∙_}
 use mathlib.Core.List.{List, _∷_, flatMap}
-use Prim.Native.Nat.{ℕ, suc, _+_, _*_, _≤_}
+use Prim.Native.Nat.{ℕ, _+_, _*_, _≤_}
 use native.Mathlib.Numerals.{add-one, add-two}
 use native.Mathlib.Omega.{arith}
 use lib.ListN.{length, getD, take, drop, set, length-set}
 use lib.Seq.{sets, length-sets, take-at}
-use Rattle.record.specs.Tree.{Range, Encoding, windows, sequences}
+use Rattle.record.specs.Tree.{Encoding, sequences}
 use Rattle.record.specs.Flat.{nodeWidth, rangeNumbers}
 use Rattle.record.proofs.Flat.{length-numbers, range-stored}
 use Rattle.merge.specs.Join.{joinRanges, windowCount}

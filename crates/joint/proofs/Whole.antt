@@ -1,6 +1,6 @@
 -- A node of a join: its numbers and its rows, of two encodings that stand somewhere.
 -- Assumes nothing.
-use mathlib.Core.Path.{_≡_, ap, ap₂, _∙_}
+use mathlib.Core.Path.{_≡_, ap₂, _∙_}
 use mathlib.Core.Bool.{Bool}
 use mathlib.Core.List.{List, [], _∷_}
 use Prim.Native.Nat.{ℕ, _+_, _*_, _≤_}
@@ -13,7 +13,7 @@ use Rattle.record.proofs.Here.{here-own, here-rows-fit}
 use Rattle.joint.specs.declared.View.{View}
 use Rattle.joint.specs.declared.Spot.{Spot}
 use Rattle.joint.specs.Node.{spot, AskNode, WritesNode}
-use Rattle.joint.specs.Parts.{NodeAt, AskNumbers, WritesNumbers, AskOwn, WritesOwn}
+use Rattle.joint.specs.Parts.{AskNumbers, WritesNumbers, AskOwn, WritesOwn}
 use Rattle.joint.proofs.Nodes.{node-count, here-node}
 
 -- the own rows of an encoding end within the rows

@@ -94,18 +94,11 @@ pub fn append_node(
     let shift = out_nodes[0];
     let count = wide(shift);
     let p_count = wide(p_nodes[k]);
+    let size = count * Encoding::ROW_WIDTH;
     let base = base_of(out_rows, 0, count, growing);
     out_nodes[0] = shift + p_nodes[k];
     lay_ranges(out_nodes, 0, shift, p_nodes, k, view);
-    copy_moved(
-        p_rows,
-        p.row,
-        p_count,
-        base,
-        view,
-        out_rows,
-        count * Encoding::ROW_WIDTH,
-    );
+    copy_moved(p_rows, p.row, p_count, base, view, out_rows, size);
 }
 
 // The numbers of the node of the join of the encodings whose nodes stand at i and at k, from `at` on.

@@ -3,7 +3,7 @@ use mathlib.Core.Path.{_∙_}
 use lib.ListN.{length-set}
 use Rattle.joint.proofs.Nodes.{node-count, here-node}
 use Rattle.joint.proofs.Whole.{own-inside}
-use Rattle.joint.proofs.Appending.{asks-ranges, asks-rows, appends}
+use Rattle.joint.proofs.Appending.{asks-ranges, rows-room, asks-rows, appends}
 use native.Mathlib.Omega.{arith}
 use borrow.Author.Needs.{needs}
 use Rattle.joint.proofs.append_node.Statement.{statement}
@@ -23,6 +23,11 @@ shared-slice-read-wide c = omega (arith, here-node (c .before .before .before .b
 
 wide-requires-2 : tie.Need-wide-requires-2
 wide-requires-2 c κs = search needs
+
+mul-size : tie.Need-mul-size
+mul-size c =
+    let start = c .before .before .before .before .before .before .before .before in
+    omega (arith, rows-room (start .pre) (c .before .before .wide .ensures) (c .wide2 .ensures), start .good .1 .1 .1 .1 .1 .1 .0)
 
 base-of-requires : tie.Need-base-of-requires
 base-of-requires c κs =
@@ -46,18 +51,14 @@ slice-write-out-nodes c = omega (arith, here-node (c .before .before .before .be
 lay-ranges-requires : tie.Need-lay-ranges-requires
 lay-ranges-requires c κs = asks-ranges (c .before .before .before .before .before .before .before .before .before .before .before .before .pre)
 
-mul-copy-moved : tie.Need-mul-copy-moved
-mul-copy-moved c =
-    let moves = c .before .before .before .before .before .before in
-    let counted = moves .before .before in
-    let start = counted .before .before .before .before .before .before .before .before in
-    omega (arith, asks-rows (start .pre) (moves .base-of .ensures) (counted .before .before .wide .ensures) (counted .wide2 .ensures) .1, start .good .1 .1 .1 .1 .1 .1 .0)
-
 copy-moved-requires : tie.Need-copy-moved-requires
 copy-moved-requires c κs =
     let moves = c .before .before .before .before .before .before in
     let counted = moves .before .before in
-    asks-rows (counted .before .before .before .before .before .before .before .before .pre) (moves .base-of .ensures) (counted .before .before .wide .ensures) (counted .wide2 .ensures)
+    let ask = counted .before .before .before .before .before .before .before .before .pre in
+    let e = counted .before .before .wide .ensures in
+    let f = counted .wide2 .ensures in
+    (asks-rows ask e f (moves .base-of .ensures), omega (arith, rows-room ask e f))
 
 same-length : tie.Need-same-length
 same-length c =
@@ -85,13 +86,13 @@ append-node-spec =
     mul-wide
     shared-slice-read-wide
     wide-requires-2
+    mul-size
     base-of-requires
     mul-out-nodes
     shared-slice-read-out-nodes
     add-out-nodes
     slice-write-out-nodes
     lay-ranges-requires
-    mul-copy-moved
     copy-moved-requires
     same-length
     same-length-2

@@ -1,6 +1,5 @@
 -- `copy_moved` copies the block, and changes in it what moves and what the view sets. Assumes nothing.
 use Rattle.joint.proofs.Moving.{asks-moved, makes-moved}
-use native.Mathlib.Omega.{arith}
 use borrow.Author.Needs.{needs}
 use Rattle.joint.proofs.copy_moved.Statement.{statement}
 use Rattle.joint.proofs.copy_moved.Tie as tie

@@ -1,6 +1,5 @@
 -- `lay_range` writes P's range, shifted, if it is present. Assumes nothing.
 use Rattle.joint.proofs.Laying.{lays-none, lays-shifted}
-use native.Mathlib.Omega.{arith}
 use borrow.Author.Needs.{needs}
 use Rattle.joint.proofs.lay_range.Statement.{statement}
 use Rattle.joint.proofs.lay_range.Tie as tie

@@ -2,7 +2,6 @@
 use mathlib.Core.Path.{subst}
 use Rattle.joint.specs.Node.{ViewFine}
 use Rattle.joint.proofs.Laying.{lays-plain, lays-window, lays-piece}
-use native.Mathlib.Omega.{arith}
 use borrow.Author.Needs.{needs}
 use Rattle.joint.proofs.view_range.Statement.{statement}
 use Rattle.joint.proofs.view_range.Tie as tie

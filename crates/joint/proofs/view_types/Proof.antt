@@ -3,7 +3,6 @@ use mathlib.Core.Path.{ap}
 use Rattle.joint.specs.declared.View.{View}
 use Rattle.joint.specs.View.{rowsSeen}
 use Rattle.joint.proofs.Moving.{makes-none, makes-typed}
-use native.Mathlib.Omega.{arith}
 use borrow.Author.Needs.{needs}
 use Rattle.joint.proofs.view_types.Statement.{statement}
 use Rattle.joint.proofs.view_types.Tie as tie

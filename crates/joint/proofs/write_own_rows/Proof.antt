@@ -1,6 +1,6 @@
 -- `write_own_rows` copies S's rows, and P's after them. Assumes nothing.
-use Rattle.joint.proofs.Moving.{own-asks, own-written}
 use native.Mathlib.Omega.{arith}
+use Rattle.joint.proofs.Moving.{own-asks, own-written}
 use borrow.Author.Needs.{needs}
 use Rattle.joint.proofs.write_own_rows.Statement.{statement}
 use Rattle.joint.proofs.write_own_rows.Tie as tie
@@ -21,7 +21,8 @@ copy-moved-requires : tie.Need-copy-moved-requires
 copy-moved-requires c κs =
     let copied = c .before .before .before in
     let moves = copied .before .before in
-    own-asks (moves .base-of .ensures) (copied .copy .ensures) (moves .before .before .before .before .pre)
+    let ask = moves .before .before .before .before .pre in
+    (own-asks (moves .base-of .ensures) ask, omega (arith, ask .fits, copied .copy .kept .1 .1 .1 .0))
 
 same-length : tie.Need-same-length
 same-length c = search needs
@@ -31,7 +32,7 @@ returns c =
     let moved = c .before .before in
     let copied = moved .before .before .before .before in
     let moves = copied .before .before in
-    own-written (moves .base-of .ensures) (copied .copy .ensures) (moves .before .before .before .before .args .view) (moved .copy-moved .ensures)
+    own-written (moves .base-of .ensures) (moves .before .before .before .before .args .view) (copied .copy .ensures) (moved .copy-moved .ensures)
 
 pub write-own-rows-spec : {M : Type 1} → statement M
 write-own-rows-spec =
