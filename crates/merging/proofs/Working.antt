@@ -1,13 +1,14 @@
 -- How an operation that is lent a working store meets its promise.
 -- Assumes nothing.
-use mathlib.Core.Path.{_≡_, _∙_}
+use mathlib.Core.Path.{_≡_, ap, _∙_}
 use mathlib.Core.Bool.{false}
 use mathlib.Core.List.{List}
 use Prim.Native.Nat.{ℕ}
 use lib.Dec.{eqb}
+use lib.ListN.{length, replicate}
 use Rattle.record.specs.Tree.{Forest}
 use Rattle.record.specs.Refusals.{numberOf}
-use Rattle.record.specs.Outcome.{Outcome, refused, done, afterRefusal, leftWorking, Writes}
+use Rattle.record.specs.Outcome.{Outcome, refused, done, leftWorking, Writes}
 use Rattle.record.specs.declared.Refusal.{Refusal}
 use Rattle.record.specs.declared.Refusal.the-variants.{OffsetTooLarge}
 use Rattle.record.specs.declared.Written.{Written}
@@ -15,6 +16,10 @@ use Rattle.record.specs.declared.Written.the-variants.{Refused}
 use Rattle.record.proofs.Outcome.{writes-refused}
 use Rattle.merge.proofs.Outcomes.{writes-zeros}
 use Rattle.merging.specs.Working.{WritesWith, Zeroed}
+
+-- zeros go by lengths
+pub zeroed-kept : {was was′ nodes rows nodes₁ rows₁ : List ℕ} → length nodes ≡ length was → length rows ≡ length was′ → Zeroed nodes rows nodes₁ rows₁ → Zeroed was was′ nodes₁ rows₁
+zeroed-kept a b z = record { nodes-zero = z .nodes-zero ∙ ap (λ (n : ℕ). replicate n 0) a; rows-zero = z .rows-zero ∙ ap (λ (n : ℕ). replicate n 0) b }
 
 module _ {o : Outcome} {answer : Written} {nodes rows working working′ nodes₁ rows₁ working₁ working₁′ : List ℕ} where
   -- refused, save with 6: nothing has changed

@@ -3,7 +3,6 @@ use mathlib.Core.Path.{sym, ap₂, _∙_}
 use mathlib.Core.Bool.{false}
 use Prim.Native.Nat.{_+_}
 use native.Mathlib.Omega.{arith}
-use borrow.Author.Needs.{needs}
 use Rattle.merge.specs.Join.{join}
 use Rattle.merging.proofs.Sizes.{front-long, front-size, front-count, front-profiled, measured-profiled, sizes-plain}
 use Rattle.merging.proofs.join_size.Statement.{statement}
@@ -19,13 +18,13 @@ shared-slice-read-wide : tie.Need-shared-slice-read-wide
 shared-slice-read-wide c = omega (arith, front-long (c .before .before .before .before .before .before .before .pre .first-stands))
 
 wide-requires : tie.Need-wide-requires
-wide-requires c κs = search needs
+wide-requires c κs = tt
 
 shared-slice-read-wide-2 : tie.Need-shared-slice-read-wide-2
 shared-slice-read-wide-2 c = omega (arith, front-long (c .before .before .before .before .before .before .before .before .before .pre .second-stands))
 
 wide-requires-2 : tie.Need-wide-requires-2
-wide-requires-2 c κs = search needs
+wide-requires-2 c κs = tt
 
 add-rows : tie.Need-add-rows
 add-rows c =

@@ -3,7 +3,6 @@ use mathlib.Core.Path.{_≡_, refl, sym, _∙_}
 use mathlib.Core.Bool.{true}
 use denote.Ref.{now}
 use lib.ListN.{length}
-use borrow.Author.Needs.{needs}
 use borrow.Author.Tests.{not-true, not-false}
 use Rattle.record.specs.Tree.{Encoding}
 use Rattle.record.specs.Standing.{One}
@@ -27,13 +26,13 @@ the-second : (c : tie.Else2) → let v = c .before .before .before .before .befo
 the-second c = one-there _ _ (sym (c .before .is-one2 .ensures) ∙ not-false _ (c .if2 .left))
 
 is-one-requires : tie.Need-is-one-requires
-is-one-requires c κs = search needs
+is-one-requires c κs = tt
 
 returns : tie.Need-returns
 returns c = writes-refused MalformedRecord (join-malformed-first _ _ _ _ _ (sym (c .before .is-one .ensures) ∙ not-true _ (c .if1 .taken))) refl refl refl refl
 
 is-one-requires-2 : tie.Need-is-one-requires-2
-is-one-requires-2 c κs = search needs
+is-one-requires-2 c κs = tt
 
 returns-2 : tie.Need-returns-2
 returns-2 c = writes-refused MalformedRecord (join-malformed-second _ _ _ _ _ (sym (c .before .is-one2 .ensures) ∙ not-true _ (c .if2 .taken))) refl refl refl refl
@@ -49,7 +48,7 @@ sized : (c : tie.After-join-size) → Sizes (join (c .before .before .before .be
 sized c = c .join-size .ensures _ _ _ (one-stands (the-first (c .before .before .before) .1)) (one-stands (the-second (c .before) .1))
 
 has-room-requires : tie.Need-has-room-requires
-has-room-requires c κs = search needs
+has-room-requires c κs = tt
 
 returns-3 : tie.Need-returns-3
 returns-3 c =
@@ -64,7 +63,7 @@ join-fits-requires c κs =
     record { S = s .0; first = s .1; P = p .0; second = p .1 }
 
 zero-both-requires : tie.Need-zero-both-requires
-zero-both-requires c κs = search needs
+zero-both-requires c κs = tt
 
 same-length : tie.Need-same-length
 same-length c = c .before .before .before .before .zero-both .kept .0
