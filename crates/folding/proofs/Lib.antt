@@ -1,0 +1,4 @@
+pub mod Writing
+pub mod Steps
+pub mod Going
+pub mod Deciding
