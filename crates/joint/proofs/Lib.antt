@@ -5,6 +5,7 @@ pub mod Turning
 pub mod Moving
 pub mod Nodes
 pub mod Laying
+pub mod Setting
 pub mod Numbers
 pub mod Whole
 pub mod Appending

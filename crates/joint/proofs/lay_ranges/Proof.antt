@@ -1,6 +1,6 @@
 -- `lay_ranges` lays the ranges that P has, and then the one that the view sets. Assumes nothing.
 use Rattle.joint.proofs.Nodes.{node-count}
-use Rattle.joint.proofs.Laying.{lays-seen}
+use Rattle.joint.proofs.Setting.{lays-seen}
 use native.Mathlib.Omega.{arith}
 use borrow.Author.Needs.{needs}
 use Rattle.joint.proofs.lay_ranges.Statement.{statement}

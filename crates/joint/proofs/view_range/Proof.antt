@@ -1,7 +1,7 @@
 -- `view_range` writes the range that the view sets. Assumes nothing.
 use mathlib.Core.Path.{subst}
 use Rattle.joint.specs.Node.{ViewFine}
-use Rattle.joint.proofs.Laying.{lays-plain, lays-window, lays-piece}
+use Rattle.joint.proofs.Setting.{lays-plain, lays-window, lays-piece}
 use borrow.Author.Needs.{needs}
 use Rattle.joint.proofs.view_range.Statement.{statement}
 use Rattle.joint.proofs.view_range.Tie as tie

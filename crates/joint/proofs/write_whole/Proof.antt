@@ -1,5 +1,5 @@
 -- `write_whole` writes the range of a sequence. Assumes nothing.
-use Rattle.joint.proofs.Laying.{makes-whole}
+use Rattle.joint.proofs.Setting.{makes-whole}
 use borrow.Author.Needs.{needs}
 use Rattle.joint.proofs.write_whole.Statement.{statement}
 use Rattle.joint.proofs.write_whole.Tie as tie
