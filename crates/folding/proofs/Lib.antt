@@ -1,3 +1,4 @@
+pub mod Windowless
 pub mod Writing
 pub mod Steps
 pub mod Going

@@ -11,11 +11,18 @@ use record::Encoding;
 use record::Refusal;
 use record::Written;
 
-// What the fold of a batch of `count` encodings takes.
+// What the fold of a batch of `count` encodings takes. Where none of them has windows it is one node with all the rows.
 fn fold_size(nodes: &[u32], rows: &[u32], count: usize) -> Size
     requires { ⌜ AskSize (now nodes) (now rows) count ⌝ }
     ensures { λ r. ⌜ SizesFold (now (nodes .entry)) (now (rows .entry)) r ⌝ }
 {
+    if nodes.len() == count * Encoding::NODE_WIDTH {
+        return Size {
+            fits: true,
+            nodes: 1,
+            rows: rows.len() / Encoding::ROW_WIDTH,
+        };
+    }
     merging::size_of(profile::folded_profile(nodes))
 }
 
