@@ -13,6 +13,7 @@ use Rattle.merge.specs.Offsets.{joinFits, foldFits}
 use Rattle.joint.specs.declared.Spot.{Spot}
 use Rattle.merging.specs.declared.Size.{Size}
 use Rattle.merging.specs.Sizes.{Sizes}
+use Rattle.merging.specs.Working.{Zeroed}
 
 -- ---- The size
 
@@ -58,3 +59,10 @@ pub record AskFold (nodes rows : List ℕ) (g : Bool) (out out′ working workin
 -- Whatever batch they store, its fold was written from the front of the output on.
 abbrev pub WritesFold : List ℕ → List ℕ → Bool → List ℕ → List ℕ → List ℕ → List ℕ → Type 0
 WritesFold nodes rows g out out′ out₁ out₁′ = (f : Forest) → Stores nodes rows f → Put (fold g (listed f) ∷ []) out 0 out′ 0 out₁ out₁′
+
+-- ---- An offset that is too large
+
+-- "6 leaves output and working store all zeros"
+pub record ZeroedAll (out out′ working working′ out₁ out₁′ working₁ working₁′ : List ℕ) : Type 0 where
+  pub output : Zeroed out out′ out₁ out₁′
+  pub working-store : Zeroed working working′ working₁ working₁′

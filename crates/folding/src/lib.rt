@@ -2,7 +2,7 @@
 ghost use Rattle.record.specs.Read.{read};
 ghost use Rattle.merge.specs.Outcomes.{foldOutcome};
 ghost use Rattle.merging.specs.Working.{WritesWith};
-ghost use Rattle.folding.specs.Steps.{AskSize, SizesFold, AskStep, WritesStep, AskFold, WritesFold};
+ghost use Rattle.folding.specs.Steps.{AskSize, SizesFold, AskStep, WritesStep, AskFold, WritesFold, ZeroedAll};
 use batch::Shape;
 use joint::Spot;
 use joint::View;
@@ -125,6 +125,21 @@ fn write_fold(
     }
 }
 
+// What an offset that is too large leaves: output and working store all zeros.
+fn zero_all(
+    out_nodes: &mut [u32],
+    out_rows: &mut [u32],
+    working_nodes: &mut [u32],
+    working_rows: &mut [u32],
+)
+    ensures { λ _. ⌜ ZeroedAll (now («out_nodes» .entry)) (now («out_rows» .entry)) (now («working_nodes» .entry)) (now («working_rows» .entry)) (now («out_nodes» .exit)) (now («out_rows» .exit)) (now («working_nodes» .exit)) (now («working_rows» .exit)) ⌝ }
+{
+    record::zero(out_nodes);
+    record::zero(out_rows);
+    record::zero(working_nodes);
+    record::zero(working_rows);
+}
+
 // The encodings of a batch joined in their order, from the empty encoding on.
 // Refuses 1 a malformed record, 2 no room in the output or in the working store, 6 an offset that would pass 32 bits, which
 // leaves output and working store all zeros. A working store is zeroed on success too.
@@ -150,8 +165,7 @@ pub fn merge(
         return Written::Refused(Refusal::NoRoom);
     }
     if !reach::fold_fits(nodes, rows, growing) {
-        merging::zero_both(out_nodes, out_rows);
-        merging::zero_both(working_nodes, working_rows);
+        zero_all(out_nodes, out_rows, working_nodes, working_rows);
         return Written::Refused(Refusal::OffsetTooLarge);
     }
     write_fold(

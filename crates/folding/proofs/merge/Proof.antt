@@ -65,38 +65,36 @@ returns-3 c = with-refused NoRoom (outcome-no-working (the-batch (c .before .bef
 fold-fits-requires : tie.Need-fold-fits-requires
 fold-fits-requires c κs = let b = the-batch (c .before .before .before .before .before) in (b .0, b .1)
 
-zero-both-requires : tie.Need-zero-both-requires
-zero-both-requires c κs = tt
-
-zero-both-requires-2 : tie.Need-zero-both-requires-2
-zero-both-requires-2 c κs = tt
+zero-all-requires : tie.Need-zero-all-requires
+zero-all-requires c κs = tt
 
 same-length : tie.Need-same-length
-same-length c = c .before .before .before .before .before .before .before .before .before .before .before .zero-both .kept .0
+same-length c = c .before .before .before .before .before .before .before .before .zero-all .kept .0
 
 same-length-2 : tie.Need-same-length-2
-same-length-2 c = c .before .before .before .before .before .before .before .before .before .before .before .zero-both .kept .1 .0
+same-length-2 c = c .before .before .before .before .before .before .before .before .zero-all .kept .1 .0
 
 same-length-3 : tie.Need-same-length-3
-same-length-3 c = c .before .before .before .before .zero-both2 .kept .0
+same-length-3 c = c .before .before .before .before .before .before .before .before .zero-all .kept .1 .1 .0
 
 same-length-4 : tie.Need-same-length-4
-same-length-4 c = c .before .before .before .before .zero-both2 .kept .1 .0
+same-length-4 c = c .before .before .before .before .before .before .before .before .zero-all .kept .1 .1 .1 .0
 
 returns-4 : tie.Need-returns-4
 returns-4 c =
-    let f = c .before .before .before .before .before .before .before .before .before .before .before .before .before .before .before in
+    let f = c .before .before .before .before .before .before .before .before .before .before .before .before .before .before in
+    let z = c .before .before .before .before .before .before .before .before .zero-all .ensures in
     with-zeros
-    (outcome-too-large (the-batch (f .before .before .before .before .before .before) .1) _ _ _ _ _ (sized (f .before .before .before .before .before)) (roomed (f .before .before .before)) (working-roomed (f .before)) (sym (fits f) ∙ not-true _ (c .before .before .before .before .before .before .before .before .before .before .before .before .before .before .if3 .taken)))
-    refl (c .before .before .before .before .before .before .before .before .before .before .before .zero-both .ensures) (c .before .before .before .before .zero-both2 .ensures)
+    (outcome-too-large (the-batch (f .before .before .before .before .before .before) .1) _ _ _ _ _ (sized (f .before .before .before .before .before)) (roomed (f .before .before .before)) (working-roomed (f .before)) (sym (fits f) ∙ not-true _ (c .before .before .before .before .before .before .before .before .before .before .before .before .before .if3 .taken)))
+    refl (z .output) (z .working-store)
 
 write-fold-requires : tie.Need-write-fold-requires
 write-fold-requires c κs =
     let f = c .before .before .before .before .before in
     fold-asks (the-batch (f .before .before .before .before .before .before) .1) _ _ _ _ _ (sized (f .before .before .before .before .before)) (roomed (f .before .before .before)) (working-roomed (f .before)) (sym (fits f) ∙ not-false _ (c .before .before .before .before .if3 .left))
 
-zero-both-requires-3 : tie.Need-zero-both-requires-3
-zero-both-requires-3 c κs = tt
+zero-both-requires : tie.Need-zero-both-requires
+zero-both-requires c κs = tt
 
 same-length-5 : tie.Need-same-length-5
 same-length-5 c = c .before .before .before .before .before .before .before .before .before .before .before .before .before .before .before .write-fold .kept .1 .1 .1 .0
@@ -105,10 +103,10 @@ same-length-6 : tie.Need-same-length-6
 same-length-6 c = c .before .before .before .before .before .before .before .before .before .before .before .before .before .before .before .write-fold .kept .1 .1 .1 .1 .0
 
 same-length-7 : tie.Need-same-length-7
-same-length-7 c = c .before .before .before .before .zero-both3 .kept .0 ∙ c .before .before .before .before .before .before .before .before .before .before .before .before .before .before .before .write-fold .kept .1 .1 .1 .1 .1 .0
+same-length-7 c = c .before .before .before .before .zero-both .kept .0 ∙ c .before .before .before .before .before .before .before .before .before .before .before .before .before .before .before .write-fold .kept .1 .1 .1 .1 .1 .0
 
 same-length-8 : tie.Need-same-length-8
-same-length-8 c = c .before .before .before .before .zero-both3 .kept .1 .0 ∙ c .before .before .before .before .before .before .before .before .before .before .before .before .before .before .before .write-fold .kept .1 .1 .1 .1 .1 .1 .0
+same-length-8 c = c .before .before .before .before .zero-both .kept .1 .0 ∙ c .before .before .before .before .before .before .before .before .before .before .before .before .before .before .before .write-fold .kept .1 .1 .1 .1 .1 .1 .0
 
 returns-5 : tie.Need-returns-5
 returns-5 c =
@@ -117,7 +115,7 @@ returns-5 c =
     let b = the-batch (f .before .before .before .before .before .before) in
     let k = w .write-fold .kept in
     fold-writes (b .1) _ _ _ _ _ (sized (f .before .before .before .before .before)) (roomed (f .before .before .before)) (working-roomed (f .before)) (sym (fits f) ∙ not-false _ (w .before .before .before .before .before .if3 .left)) (w .write-fold .ensures (b .0) (b .1))
-    (zeroed-kept (k .1 .1 .1 .1 .1 .0) (k .1 .1 .1 .1 .1 .1 .0) (c .before .before .before .before .zero-both3 .ensures))
+    (zeroed-kept (k .1 .1 .1 .1 .1 .0) (k .1 .1 .1 .1 .1 .1 .0) (c .before .before .before .before .zero-both .ensures))
 
 pub merge-spec : {M : Type 1} → statement M
 merge-spec =
@@ -133,15 +131,14 @@ merge-spec =
     has-room-requires-2
     returns-3
     fold-fits-requires
-    zero-both-requires
-    zero-both-requires-2
+    zero-all-requires
     same-length
     same-length-2
     same-length-3
     same-length-4
     returns-4
     write-fold-requires
-    zero-both-requires-3
+    zero-both-requires
     same-length-5
     same-length-6
     same-length-7
