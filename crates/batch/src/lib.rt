@@ -3,7 +3,7 @@ ghost use mathlib.Core.Path.{_≡_};
 ghost use Prim.Native.Nat.{_+_, _≤_};
 ghost use lib.ListN.{length};
 ghost use Rattle.record.specs.Flat.{nodeWidth};
-ghost use Rattle.record.specs.Read.{read, isOne};
+ghost use Rattle.record.specs.Read.{read, isOne, isOneOrTwo};
 ghost use Rattle.batch.specs.Answers.{shapeOf};
 ghost use Rattle.batch.specs.Built.{Passes};
 ghost use Rattle.batch.specs.Fine.{RangeOk, NodeAt, RowOk, RowsFine, Decides};
@@ -40,6 +40,22 @@ pub fn is_one(nodes: &[u32], rows: &[u32]) -> bool
     match shape {
         Shape::Malformed => false,
         Shape::Encodings(n) => n == 1,
+    }
+}
+
+// Whether they are a well-formed batch of one or two encodings.
+pub fn is_one_or_two(nodes: &[u32], rows: &[u32]) -> bool
+    ensures { λ r. ⌜ r ≡ isOneOrTwo (read (now (nodes .entry)) (now (rows .entry))) ⌝ }
+{
+    let shape = check_batch(nodes, rows);
+    match shape {
+        Shape::Malformed => false,
+        Shape::Encodings(n) => {
+            if n == 1 {
+                return true;
+            }
+            n == 2
+        }
     }
 }
 

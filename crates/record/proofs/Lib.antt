@@ -8,5 +8,6 @@ pub mod Here
 pub mod Sets
 pub mod Put
 pub mod One
+pub mod OneOrTwo
 pub mod Outcome
 pub mod Walk

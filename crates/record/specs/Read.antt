@@ -3,6 +3,7 @@
 -- Assumes nothing: these are definitions.
 use Prim.Native.Nat.{ℕ, zero, suc, _+_, _*_}
 use mathlib.Core.Bool.{Bool, true, false, _&&_, _||_, cond}
+use mathlib.Core.Option.{Option, none as nothing, some}
 use mathlib.Core.List.{List, [], _∷_}
 use lib.Dec.{leb, eqb}
 use lib.ListN.{length, getD, drop}
@@ -106,6 +107,22 @@ ofOne otherwise k (holds f) = sole otherwise k (listed f)
 -- whether there is just one
 unfoldable pub isOne : Reading → Bool
 isOne r = ofOne false (λ E. true) r
+
+-- "truncate pair and process a batch of one or two. Any other number is refused with 1.": what k says of the first and
+-- of the second, if there is one
+abbrev pub oneOrTwo : {A : Type 0} → A → (Encoding → Option Encoding → A) → List Encoding → A
+oneOrTwo otherwise k [] = otherwise
+oneOrTwo otherwise k (E ∷ []) = k E nothing
+oneOrTwo otherwise k (E ∷ F ∷ []) = k E (some F)
+oneOrTwo otherwise k (E ∷ F ∷ G ∷ Es) = otherwise
+
+unfoldable pub ofOneOrTwo : {A : Type 0} → A → (Encoding → Option Encoding → A) → Reading → A
+ofOneOrTwo otherwise k malformed = otherwise
+ofOneOrTwo otherwise k (holds f) = oneOrTwo otherwise k (listed f)
+
+-- whether there are one or two
+unfoldable pub isOneOrTwo : Reading → Bool
+isOneOrTwo r = ofOneOrTwo false (λ E second. true) r
 
 -- "text, span, pad batch and fold any batch"
 unfoldable pub ofAny : {A : Type 0} → A → (Forest → A) → Reading → A

@@ -2,6 +2,7 @@
 -- Assumes nothing: these are definitions.
 use mathlib.Core.Path.{_≡_}
 use Prim.Native.Nat.{ℕ, _≤_}
+use mathlib.Core.Option.{Option, none as nothing, some}
 use mathlib.Core.List.{List, [], _∷_, _++_, flatMap}
 use lib.ListN.{length, drop}
 use lib.Seq.{sets}
@@ -19,6 +20,15 @@ pub record At (nodes rows : List ℕ) (i j : ℕ) (f : Forest) : Type 0 where
 -- The two lists store the one encoding E.
 pub record One (nodes rows : List ℕ) (E : Encoding) : Type 0 where
   pub stores : Stores nodes rows (forest (E ∷ []))
+
+-- An encoding, and after it the second, if there is one.
+abbrev pub withSecond : Encoding → Option Encoding → List Encoding
+withSecond E nothing = E ∷ []
+withSecond E (some F) = E ∷ F ∷ []
+
+-- The two lists store the encoding E and after it the second, if there is one.
+pub record OneOrTwo (nodes rows : List ℕ) (E : Encoding) (second : Option Encoding) : Type 0 where
+  pub stores : Stores nodes rows (forest (withSecond E second))
 
 -- The rows from place j on begin with R.
 pub record RowsAt (rows : List ℕ) (j : ℕ) (R : List Row) : Type 0 where
