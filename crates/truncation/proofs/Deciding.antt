@@ -1,14 +1,13 @@
 -- What becomes of a batch of one encoding that is to be cut: each refusal, and the result.
 -- Assumes nothing.
-use mathlib.Core.Path.{_≡_, refl, sym, ap, ap₂, subst, _∙_}
+use mathlib.Core.Path.{_≡_, sym, ap, ap₂, subst, _∙_}
 use mathlib.Core.Bool.{Bool, true, false, cond}
 use Prim.Native.Nat.{ℕ, _+_, _*_, _≤_}
 use native.Mathlib.Omega.{arith}
-use mathlib.Core.List.{List, [], _∷_, append-nil}
+use mathlib.Core.List.{List, [], _∷_}
 use lib.ListN.{length, getD}
 use Rattle.record.specs.Tree.{Encoding, Forest, forest}
-use Rattle.record.specs.Flat.{rowWidth, nodeWidth, flatNodes}
-use Rattle.record.specs.WellFormed.{levels}
+use Rattle.record.specs.Flat.{rowWidth, nodeWidth}
 use Rattle.record.specs.Read.{Reading, read, isOne}
 use Rattle.record.specs.Standing.{One, Here, Put}
 use Rattle.record.specs.Outcome.{refused, done, inRoom, Writes}
@@ -16,33 +15,35 @@ use Rattle.record.specs.declared.Refusal.the-variants.{MalformedRecord, NoRoom,
 use Rattle.record.specs.declared.Written.the-variants.{Done}
 use Rattle.record.proofs.Flat.{length-nodes, length-rows}
 use Rattle.record.proofs.One.{one-of, not-one, one-at, one-size}
+use Rattle.record.proofs.Here.{here-size}
 use Rattle.record.proofs.Outcome.{writes-done}
 use Rattle.cut.specs.declared.Direction.{Direction}
 use Rattle.extent.specs.declared.Extent.{Extent}
+use Rattle.extent.proofs.Stands.{here-stands}
 use Rattle.extent.proofs.Room.{room-by-size, roomy-fits}
 use Rattle.extent.specs.Size.{sizeOf, Stands, roomy}
 use Rattle.truncation.specs.Size.{sizeAfter, Fitting}
-use Rattle.truncation.specs.Truncate.{truncated, strideRefused, truncateOutcome}
+use Rattle.truncation.specs.Truncate.{truncated, strideRefused, cutOutcome, truncateOutcome}
 use Rattle.truncation.specs.Writing.{Ask}
 use Rattle.truncation.proofs.Sizes.{truncated-size}
 use Rattle.truncation.proofs.Fineness.{truncated-fine}
 
--- ---- The one encoding, where it stands and what it holds
+-- ---- An encoding, where it stands and what it holds
+
+pub here-fitting : {nodes rows : List ℕ} {i j : ℕ} {E : Encoding} {own : Extent} → Here nodes rows i j (forest (E ∷ [])) → own ≡ sizeOf (forest (E ∷ [])) → Fitting (getD nodes i 0) own
+here-fitting h e =
+    record {
+      few-own = omega (arith, here-size h, h .well .fits .few-rows);
+      few-nodes = omega (arith, ap (λ (s : Extent). s .nodes) e, h .well .fits .few-nodes);
+      few-levels = omega (arith, ap (λ (s : Extent). s .levels) e, h .well .fits .few-levels);
+    }
 
 module _ {nodes rows : List ℕ} {E : Encoding} (h : One nodes rows E) where
   pub one-here : Here nodes rows 0 0 (forest (E ∷ []))
   one-here = record { at = one-at h; on = omega arith; well = h .stores .well }
 
   pub one-stands : Stands nodes 0 1 (forest (E ∷ []))
-  one-stands = record { rest = []; is = sym (h .stores .nodes-are) ∙ sym (append-nil (flatNodes (forest (E ∷ [])))); counts = refl; fine = h .stores .well .fine; few-nodes = h .stores .well .fits .few-nodes; few-rows = h .stores .well .fits .few-rows }
-
-  pub one-fitting : {own : Extent} → own ≡ sizeOf (forest (E ∷ [])) → Fitting (getD nodes 0 0) own
-  one-fitting {own} e =
-      record {
-        few-own = omega (arith, one-size h, h .stores .well .fits .few-rows);
-        few-nodes = omega (arith, ap (λ (s : Extent). s .nodes) e, h .stores .well .fits .few-nodes);
-        few-levels = omega (arith, ap (λ (s : Extent). s .levels) e, h .stores .well .fits .few-levels);
-      }
+  one-stands = here-stands one-here
 
 -- ---- The outcome
 
@@ -51,15 +52,19 @@ unfolding truncateOutcome
 outcome-malformed out out′ max stride d r e = not-one (refused MalformedRecord) _ r e
 
 module _ {nodes rows : List ℕ} {E : Encoding} (h : One nodes rows E) (out out′ : List ℕ) (max stride : ℕ) (d : Direction) where
+  pub outcome-one : truncateOutcome out out′ max stride d (read nodes rows) ≡ cutOutcome out out′ max stride d E
+  unfolding truncateOutcome
+  outcome-one = one-of (refused MalformedRecord) _ h
+
   abbrev result : Forest
   result = forest (truncated max stride d E ∷ [])
 
-  outcome-one : truncateOutcome out out′ max stride d (read nodes rows) ≡ cond (strideRefused (getD nodes 0 0) max stride) (refused Stride) (inRoom out out′ result)
-  unfolding truncateOutcome
-  outcome-one = one-of (refused MalformedRecord) _ h ∙ ap (λ (n : ℕ). cond (strideRefused n max stride) (refused Stride) (inRoom out out′ result)) (sym (one-size h))
+  outcome-cut : cutOutcome out out′ max stride d E ≡ cond (strideRefused (getD nodes 0 0) max stride) (refused Stride) (inRoom out out′ result)
+  unfolding cutOutcome
+  outcome-cut = ap (λ (n : ℕ). cond (strideRefused n max stride) (refused Stride) (inRoom out out′ result)) (sym (one-size h))
 
-  pub outcome-stride : strideRefused (getD nodes 0 0) max stride ≡ true → truncateOutcome out out′ max stride d (read nodes rows) ≡ refused Stride
-  outcome-stride t = outcome-one ∙ ap (λ (b : Bool). cond b (refused Stride) (inRoom out out′ result)) t
+  pub outcome-stride : strideRefused (getD nodes 0 0) max stride ≡ true → cutOutcome out out′ max stride d E ≡ refused Stride
+  outcome-stride t = outcome-cut ∙ ap (λ (b : Bool). cond b (refused Stride) (inRoom out out′ result)) t
 
   module _ (t : strideRefused (getD nodes 0 0) max stride ≡ false) {own : Extent} (e : own ≡ sizeOf (forest (E ∷ []))) where
     taken : strideRefused (length (E .rows)) max stride ≡ false
@@ -68,12 +73,12 @@ module _ {nodes rows : List ℕ} {E : Encoding} (h : One nodes rows E) (out out�
     size-here : sizeOf result ≡ sizeAfter (getD nodes 0 0) max stride own
     size-here = truncated-size max stride d E taken ∙ ap₂ (λ (n : ℕ) (s : Extent). sizeAfter n max stride s) (sym (one-size h)) (sym e)
 
-    outcome-room : truncateOutcome out out′ max stride d (read nodes rows) ≡ cond (roomy (sizeAfter (getD nodes 0 0) max stride own) (length out) (length out′)) (done result) (refused NoRoom)
+    outcome-room : cutOutcome out out′ max stride d E ≡ cond (roomy (sizeAfter (getD nodes 0 0) max stride own) (length out) (length out′)) (done result) (refused NoRoom)
     outcome-room =
-        outcome-one ∙ ap (λ (b : Bool). cond b (refused Stride) (inRoom out out′ result)) t ∙ room-by-size out out′ result
+        outcome-cut ∙ ap (λ (b : Bool). cond b (refused Stride) (inRoom out out′ result)) t ∙ room-by-size out out′ result
         ∙ ap (λ (s : Extent). cond (roomy s (length out) (length out′)) (done result) (refused NoRoom)) size-here
 
-    pub outcome-no-room : roomy (sizeAfter (getD nodes 0 0) max stride own) (length out) (length out′) ≡ false → truncateOutcome out out′ max stride d (read nodes rows) ≡ refused NoRoom
+    pub outcome-no-room : roomy (sizeAfter (getD nodes 0 0) max stride own) (length out) (length out′) ≡ false → cutOutcome out out′ max stride d E ≡ refused NoRoom
     outcome-no-room r = outcome-room ∙ ap (λ (b : Bool). cond b (done result) (refused NoRoom)) r
 
     module _ (r : roomy (sizeAfter (getD nodes 0 0) max stride own) (length out) (length out′) ≡ true) where
@@ -90,7 +95,7 @@ module _ {nodes rows : List ℕ} {E : Encoding} (h : One nodes rows E) (out out�
           }
 
       pub one-writes : {size : Extent} {nodes₁ rows₁ : List ℕ} → size ≡ sizeAfter (getD nodes 0 0) max stride own → Put (truncated max stride d E ∷ []) out 0 out′ 0 nodes₁ rows₁
-          → Writes (truncateOutcome out out′ max stride d (read nodes rows)) (Done (size .nodes) (size .rows)) out out′ nodes₁ rows₁
+          → Writes (cutOutcome out out′ max stride d E) (Done (size .nodes) (size .rows)) out out′ nodes₁ rows₁
       one-writes {size} {nodes₁} {rows₁} z p =
           let f = roomy-fits (sizeAfter (getD nodes 0 0) max stride own) (length out) (length out′) r in
           let w = z ∙ sym size-here in

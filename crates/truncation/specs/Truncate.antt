@@ -25,11 +25,12 @@ truncated max stride d E =
 abbrev pub strideRefused : ℕ → ℕ → ℕ → Bool
 strideRefused rows max stride = ltb 0 max && (ltb max rows && leb max stride)
 
--- "Truncate: 1, 3 .., 2": what becomes of the batch r in an output of the two lists
-unfoldable pub truncateOutcome : List ℕ → List ℕ → ℕ → ℕ → Direction → Reading → Outcome
-truncateOutcome nodes rows max stride d r =
-    ofOne (refused MalformedRecord)
-    (λ E.
+-- ".. 3 .., 2": what becomes of the encoding E in an output of the two lists
+unfoldable pub cutOutcome : List ℕ → List ℕ → ℕ → ℕ → Direction → Encoding → Outcome
+cutOutcome nodes rows max stride d E =
     cond (strideRefused (length (E .rows)) max stride) (refused Stride)
-    (inRoom nodes rows (forest (truncated max stride d E ∷ []))))
-    r
+    (inRoom nodes rows (forest (truncated max stride d E ∷ [])))
+
+-- "Truncate: 1, 3 .., 2": what becomes of the batch r
+unfoldable pub truncateOutcome : List ℕ → List ℕ → ℕ → ℕ → Direction → Reading → Outcome
+truncateOutcome nodes rows max stride d r = ofOne (refused MalformedRecord) (cutOutcome nodes rows max stride d) r

@@ -7,7 +7,9 @@ use mathlib.Core.List.{List, [], _∷_}
 use lib.ListN.{length}
 use Rattle.record.specs.Tree.{Encoding, forest}
 use Rattle.record.specs.Flat.{rowWidth, nodeWidth}
-use Rattle.record.specs.Standing.{Here, Put}
+use Rattle.record.specs.Standing.{One, Here, Put}
+use Rattle.record.specs.Outcome.{Outcome, Writes}
+use Rattle.record.specs.declared.Written.{Written}
 use Rattle.extent.specs.Size.{sizeOf}
 use Rattle.extent.specs.declared.Extent.{Extent}
 use Rattle.truncation.specs.Size.{sizeAfter}
@@ -33,3 +35,13 @@ pub record Ask (nodes rows : List ℕ) (i j : ℕ) (own : Extent) (max stride : 
   pub taken : strideRefused (length (E .rows)) max stride ≡ false
   pub nodes-fit : a + sizeAfter (length (E .rows)) max stride own .nodes * nodeWidth ≤ length nodes′
   pub rows-fit : b + sizeAfter (length (E .rows)) max stride own .rows * rowWidth ≤ length rows′
+
+-- the two lists store one encoding, which holds `own`
+pub record AskOne (nodes rows : List ℕ) (own : Extent) : Type 0 where
+  pub E : Encoding
+  pub one : One nodes rows E
+  pub measured : own ≡ sizeOf (forest (E ∷ []))
+
+-- whatever encoding they store, if it holds `own`: what `outcome` says of it became of the output
+abbrev pub Becomes : (Encoding → Outcome) → List ℕ → List ℕ → Extent → Written → List ℕ → List ℕ → List ℕ → List ℕ → Type 0
+Becomes outcome nodes rows own answer nodes₀ rows₀ nodes₁ rows₁ = (E : Encoding) → One nodes rows E → own ≡ sizeOf (forest (E ∷ [])) → Writes (outcome E) answer nodes₀ rows₀ nodes₁ rows₁

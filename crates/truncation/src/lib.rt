@@ -5,10 +5,10 @@ ghost use mathlib.Core.List.{[], _∷_};
 ghost use Rattle.record.specs.Flat.{nodeWidth};
 ghost use Rattle.record.specs.Read.{read};
 ghost use Rattle.record.specs.Outcome.{Writes};
-ghost use Rattle.truncation.specs.Truncate.{truncated, strideRefused, truncateOutcome};
+ghost use Rattle.truncation.specs.Truncate.{truncated, strideRefused, cutOutcome, truncateOutcome};
 ghost use Rattle.windows.specs.Made.{plain};
 ghost use Rattle.truncation.specs.Size.{sizeAfter, Fitting};
-ghost use Rattle.truncation.specs.Writing.{Makes, AskCopy, Ask};
+ghost use Rattle.truncation.specs.Writing.{Makes, AskCopy, Ask, AskOne, Becomes};
 use cut::Decision;
 use cut::Direction;
 use extent::Extent;
@@ -136,27 +136,24 @@ pub fn write_truncated(
     }
 }
 
-// One encoding, cut to max rows: the kept ones and, as its windows, the others, neighbours sharing stride rows.
-// Refuses 1 a malformed record, 3 a stride of max or more where rows are cut off, 2 no room.
-pub fn truncate(
+// The one encoding that the record stores, cut.
+pub fn cut_one(
     nodes: &[u32],
     rows: &[u32],
+    own: Extent,
     max: u32,
     stride: u32,
     direction: Direction,
     out_nodes: &mut [u32],
     out_rows: &mut [u32],
 ) -> Written
-    ensures { λ r. ⌜ Writes (truncateOutcome (now («out_nodes» .entry)) (now («out_rows» .entry)) max stride direction (read (now (nodes .entry)) (now (rows .entry)))) r (now («out_nodes» .entry)) (now («out_rows» .entry)) (now («out_nodes» .exit)) (now («out_rows» .exit)) ⌝ }
+    requires { ⌜ AskOne (now nodes) (now rows) own ⌝ }
+    ensures { λ r. ⌜ Becomes (cutOutcome (now («out_nodes» .entry)) (now («out_rows» .entry)) max stride direction) (now (nodes .entry)) (now (rows .entry)) own r (now («out_nodes» .entry)) (now («out_rows» .entry)) (now («out_nodes» .exit)) (now («out_rows» .exit)) ⌝ }
 {
-    if !batch::is_one(nodes, rows) {
-        return Written::Refused(Refusal::MalformedRecord);
-    }
     let n = nodes[0];
     if stride_refused(n, max, stride) {
         return Written::Refused(Refusal::Stride);
     }
-    let own = extent::measure(nodes, 0, 1);
     let size = size_after(n, max, stride, own);
     if !extent::has_room(size, out_nodes.len(), out_rows.len()) {
         return Written::Refused(Refusal::NoRoom);
@@ -179,4 +176,33 @@ pub fn truncate(
         nodes: size.nodes,
         rows: size.rows,
     }
+}
+
+// One encoding, cut to max rows: the kept ones and, as its windows, the others, neighbours sharing stride rows.
+// Refuses 1 a malformed record, 3 a stride of max or more where rows are cut off, 2 no room.
+pub fn truncate(
+    nodes: &[u32],
+    rows: &[u32],
+    max: u32,
+    stride: u32,
+    direction: Direction,
+    out_nodes: &mut [u32],
+    out_rows: &mut [u32],
+) -> Written
+    ensures { λ r. ⌜ Writes (truncateOutcome (now («out_nodes» .entry)) (now («out_rows» .entry)) max stride direction (read (now (nodes .entry)) (now (rows .entry)))) r (now («out_nodes» .entry)) (now («out_rows» .entry)) (now («out_nodes» .exit)) (now («out_rows» .exit)) ⌝ }
+{
+    if !batch::is_one(nodes, rows) {
+        return Written::Refused(Refusal::MalformedRecord);
+    }
+    let own = extent::measure(nodes, 0, 1);
+    cut_one(
+        nodes,
+        rows,
+        own,
+        max,
+        stride,
+        direction,
+        out_nodes,
+        out_rows,
+    )
 }
