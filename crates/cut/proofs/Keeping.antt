@@ -1,16 +1,18 @@
--- The lengths kept, case by case; and that together they are at most the max length.
+-- The lengths kept, case by case; that together they are at most the max length; and what the answer can be.
 -- Assumes nothing.
 use mathlib.Core.Path.{_≡_, refl, sym, ap, subst}
 use mathlib.Core.Bool.{Bool, true, false, cond}
-use mathlib.Core.Logic.{_⊎_, ⊎-elim}
+use mathlib.Core.Logic.{_⊎_, inl, inr, ⊎-elim}
 use Prim.Native.Nat.{ℕ, _+_, _-_, _/_, _≤_, _<_}
 use native.Mathlib.Omega.{arith}
-use lib.Dec.{leb, eqb}
+use lib.Dec.{leb, ltb, eqb}
 use borrow.Author.Tests.{leb-true, leb-false, le-leb, lt-leb, lt-ltb, le-ltb, eq-eqb, ne-eqb}
-use Rattle.record.specs.declared.Refusal.the-variants.{TooShort}
-use Rattle.cut.specs.Lengths.{shorterShare, longerShare, shortened, cutAlone, keptAlone, cutBoth, keptBoth}
+use Rattle.record.specs.declared.Refusal.the-variants.{SecondMissing, TooShort}
+use Rattle.cut.specs.Lengths.{shorterShare, longerShare, shortened, cutAlone, keptAlone, cutBoth, keptBoth, keptLengths}
 use Rattle.cut.specs.declared.Strategy.{Strategy}
 use Rattle.cut.specs.declared.Strategy.the-variants.{LongestFirst, OnlyFirst, OnlySecond}
+use Rattle.cut.specs.declared.Second.{Second}
+use Rattle.cut.specs.declared.Second.the-variants.{Missing, Rows}
 use Rattle.cut.specs.declared.Kept.{Kept}
 use Rattle.cut.specs.declared.Kept.the-variants.{Refused, Alone, Both}
 use Rattle.cut.proofs.Ceiling.{either}
@@ -119,3 +121,47 @@ both-at-most first second most s = go (eqb most 0) (leb (first + second) most) r
     go true b e s = omega arith
     go false true e s = leb-true (first + second) most e
     go false false e s = cut s (leb-false (first + second) most e)
+
+pub lengths-at-most : (first : ℕ) (second : Second) (most : ℕ) (s : Strategy) → AtMost most (keptLengths first second most s)
+lengths-at-most first Missing most s = alone-at-most first most s
+lengths-at-most first (Rows second) most s = both-at-most first second most s
+
+-- ---- What the answer can be
+
+-- 4 or 5, or one length for one encoding, two for two
+abbrev pub Answers : Second → Kept → Type 0
+Answers second (Refused k) = (k ≡ SecondMissing) ⊎ (k ≡ TooShort)
+Answers Missing (Alone n) = Unit {0}
+Answers (Rows m) (Alone n) = ⊥
+Answers Missing (Both n m) = ⊥
+Answers (Rows k) (Both n m) = Unit {0}
+
+shortened-answers : (second : Second) (target remove : ℕ) (keep : ℕ → Kept) → ((n : ℕ) → Answers second (keep n)) → Answers second (shortened target remove keep)
+shortened-answers second target remove keep h = go (ltb remove target)
+  where
+    go : (t : Bool) → Answers second (cond t (keep (target - remove)) (Refused TooShort))
+    go true = h (target - remove)
+    go false = inr refl
+
+pub lengths-answer : (first : ℕ) (second : Second) (most : ℕ) (s : Strategy) → Answers second (keptLengths first second most s)
+unfolding keptAlone keptBoth
+lengths-answer first Missing most s = go (eqb most 0) (leb first most) s
+  where
+    go : (a b : Bool) (s : Strategy) → Answers Missing (cond a (Alone 0) (cond b (Alone first) (cutAlone s first (first - most))))
+    go true b s = tt
+    go false true s = tt
+    go false false LongestFirst = tt
+    go false false OnlyFirst = shortened-answers Missing first (first - most) (λ n. Alone n) (λ n. tt)
+    go false false OnlySecond = inl refl
+lengths-answer first (Rows second) most s = go (eqb most 0) (leb (first + second) most) s
+  where
+    longest : (c : Bool) → Answers (Rows second) (cond c (Both (longerShare second most) (shorterShare second most)) (Both (shorterShare first most) (longerShare first most)))
+    longest true = tt
+    longest false = tt
+
+    go : (a b : Bool) (s : Strategy) → Answers (Rows second) (cond a (Both 0 0) (cond b (Both first second) (cutBoth s first second most (first + second - most))))
+    go true b s = tt
+    go false true s = tt
+    go false false LongestFirst = longest (ltb second first)
+    go false false OnlyFirst = shortened-answers (Rows second) first (first + second - most) (λ n. Both n second) (λ n. tt)
+    go false false OnlySecond = shortened-answers (Rows second) second (first + second - most) (λ n. Both first n) (λ n. tt)
