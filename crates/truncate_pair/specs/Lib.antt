@@ -1,0 +1,3 @@
+pub mod TruncatePair
+pub mod Size
+pub mod Writing
