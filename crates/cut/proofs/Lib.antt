@@ -4,4 +4,3 @@ pub mod Laws
 pub mod Decides
 pub mod Shares
 pub mod Keeping
-pub mod Samples

@@ -1,16 +1,28 @@
 -- Document 01's starred samples: one list, over the definitions that the operations promise.
--- Assumes nothing: these are definitions. That every entry holds is `hold` of proofs/Holds.
+-- Assumes nothing: these are definitions. That every entry holds is `hold` of proofs/Hold.
 use mathlib.Core.Path.{_≡_}
 use mathlib.Core.Option.{Option, none as nothing, some}
-use Prim.Native.Nat.{ℕ}
+use Prim.Native.Nat.{ℕ, _*_}
 use mathlib.Core.Bool.{Bool, true, false}
 use mathlib.Core.List.{List, [], _∷_, _++_, map, flatMap}
 use lib.ListN.{replicate, set}
-use Rattle.record.specs.Tree.{Row, Range, Encoding, encoding, forest, sequences, absent, All}
+use Rattle.record.specs.Tree.{Row, Encoding, encoding, forest, sequences, absent}
 use Rattle.sequences.specs.Ranges.{tokenToSequence, getSequenceIds}
 use Rattle.sequences.specs.declared.Bounds.{Bounds}
 use Rattle.lookup.specs.Lookup.{wordToTokens}
+use Rattle.record.specs.Flat.{rowWidth, nodeWidth, flatNodes, flatRows}
 use Rattle.record.specs.WellFormed.{nodesIn}
+use Rattle.record.specs.Refusals.{numberOf}
+use Rattle.record.specs.Outcome.{Outcome, refused, done}
+use Rattle.cut.specs.Cut.{windowsOf}
+use Rattle.cut.specs.Lengths.{keptLengths, refusalOf, firstOf, secondOf}
+use Rattle.cut.specs.declared.Bounds.{Bounds as Stretch}
+use Rattle.cut.specs.declared.Direction.the-variants.{Left, Right}
+use Rattle.cut.specs.declared.Strategy.the-variants.{LongestFirst}
+use Rattle.cut.specs.declared.Second.the-variants.{Rows}
+use Rattle.cut.specs.declared.Kept.{Kept}
+use Rattle.windows.specs.Made.{plain}
+use Rattle.truncation.specs.Truncate.{truncated, cutOutcome}
 use Rattle.merge.specs.Join.{join}
 use Rattle.merge.specs.Samples.{sampleS, sampleP, sampleQ, spelledWindows}
 
@@ -36,6 +48,13 @@ worded ws = encoding (map wordRow ws) (replicate sequences absent) []
 abbrev pub ranged : ℕ → ℕ → ℕ → Encoding
 ranged id start end = encoding (map wordRow (0 ∷ 0 ∷ 0 ∷ [])) (set (replicate sequences absent) id (record { present = 1; start = start; end = end })) []
 
+-- 10 rows, each with its number as its id
+abbrev idRow : ℕ → Row
+idRow n = record { id = n; type-id = 0; pool = 0; text-start = 0; text-length = 0; word-mark = 0; word = 0; offset-start = 0; offset-end = 0; special = 0; attention = 1 }
+
+abbrev pub ten : Encoding
+ten = plain (map idRow (0 ∷ 1 ∷ 2 ∷ 3 ∷ 4 ∷ 5 ∷ 6 ∷ 7 ∷ 8 ∷ 9 ∷ [])) []
+
 -- ---- Answers as numbers: nothing is the empty list
 
 abbrev pub boundsNumbers : Option Bounds → List ℕ
@@ -50,6 +69,23 @@ numbers (some n) = n ∷ []
 -- first sample s, p) 11, 12, 13
 abbrev pub spelled : Encoding → List ℕ
 spelled E = flatMap (λ (w : List ℕ). 0 ∷ w) (spelledWindows E)
+
+-- the first row of each window and the row after its last
+abbrev pub stretches : List Stretch → List ℕ
+stretches bs = flatMap (λ (b : Stretch). b .start ∷ b .end ∷ []) bs
+
+-- a cut's refusal, 0 where there is none, and the nodes of the encoding that it makes
+abbrev pub nodesOrRefusal : Outcome → List ℕ
+nodesOrRefusal (refused k) = numberOf k ∷ []
+nodesOrRefusal (done f) = 0 ∷ nodesIn f ∷ []
+
+-- all numbers of an encoding
+abbrev pub flat : Encoding → List ℕ
+flat E = flatNodes (forest (E ∷ [])) ++ flatRows (forest (E ∷ []))
+
+-- the rows kept of a pair
+abbrev pub keptNumbers : Kept → List ℕ
+keptNumbers k = refusalOf k ∷ firstOf k ∷ secondOf k ∷ []
 
 -- ---- The list
 
@@ -77,8 +113,36 @@ joinSamples growing =
     (0 ∷ 11 ∷ 2 ∷ 3 ∷ 0 ∷ 11 ∷ 12 ∷ 3 ∷ 0 ∷ 11 ∷ 12 ∷ 13 ∷ 0 ∷ 11 ∷ 2 ∷ 13 ∷ 0 ∷ 1 ∷ 12 ∷ 3 ∷ 0 ∷ 1 ∷ 12 ∷ 13 ∷ 0 ∷ 1 ∷ 2 ∷ 13 ∷ [])
     ∷ []
 
+-- an output with room for eighty nodes or rows
+abbrev room : ℕ → List ℕ
+room width = replicate (width * 80) 0
+
+abbrev pub cutSamples : List Sample
+cutSamples =
+    -- "10 rows, max 4, stride 1: right as above; left 6–10, 3–7, 0–4."
+    sample (stretches (windowsOf 10 4 1 Right)) (0 ∷ 4 ∷ 3 ∷ 7 ∷ 6 ∷ 10 ∷ [])
+    ∷ sample (stretches (windowsOf 10 4 1 Left)) (6 ∷ 10 ∷ 3 ∷ 7 ∷ 0 ∷ 4 ∷ [])
+    -- "9 rows, max 4, stride 1, left: 5–9, 2–6, 0–3."
+    ∷ sample (stretches (windowsOf 9 4 1 Left)) (5 ∷ 9 ∷ 2 ∷ 6 ∷ 0 ∷ 3 ∷ [])
+    -- "10 rows, max 4: stride 4 gives 3; stride 3 gives seven windows with the kept one."
+    ∷ sample (nodesOrRefusal (cutOutcome (room nodeWidth) (room rowWidth) 4 4 Right ten)) (3 ∷ [])
+    ∷ sample (nodesOrRefusal (cutOutcome (room nodeWidth) (room rowWidth) 4 3 Right ten)) (0 ∷ 7 ∷ [])
+    -- "Max 0, stride 9: one window with all rows."
+    ∷ sample (flat (truncated 0 9 Right ten)) (flat (plain [] (ten ∷ [])))
+    -- "10 rows, max 10, stride 50: unchanged."
+    ∷ sample (flat (truncated 10 50 Right ten)) (flat ten)
+    ∷ []
+
+abbrev pub pairSamples : List Sample
+pairSamples =
+    -- "Longest first, max length 7: 10 and 10 give 3 and 4; 10 and 8 give 4 and 3; 2 and 10 give 2 and 5."
+    sample (keptNumbers (keptLengths 10 (Rows 10) 7 LongestFirst)) (0 ∷ 3 ∷ 4 ∷ [])
+    ∷ sample (keptNumbers (keptLengths 10 (Rows 8) 7 LongestFirst)) (0 ∷ 4 ∷ 3 ∷ [])
+    ∷ sample (keptNumbers (keptLengths 2 (Rows 10) 7 LongestFirst)) (0 ∷ 2 ∷ 5 ∷ [])
+    ∷ []
+
 abbrev pub samples : List Sample
-samples = lookupSamples ++ (joinSamples false ++ joinSamples true)
+samples = lookupSamples ++ (cutSamples ++ (pairSamples ++ (joinSamples false ++ joinSamples true)))
 
 -- What is claimed of each entry.
 abbrev pub Holds : Sample → Type 0

@@ -3,4 +3,3 @@ pub mod Placing
 pub mod Cutting
 pub mod Fineness
 pub mod Deciding
-pub mod Samples
