@@ -147,6 +147,80 @@ uint32_t noddrefyr_truncate(
     uint32_t *out_rows, size_t out_rows_len,
     size_t written[2]);
 
+/* Two encodings joined, written to the output; written is its nodes and its rows. Growing moves the second's offsets on by
+   the first's last offset end. Refused with 1, 2, 6; 6 (an offset past 32 bits) leaves the output all zeros. */
+uint32_t noddrefyr_merge_with(
+    const uint32_t *first_nodes, size_t first_nodes_len,
+    const uint32_t *first_rows, size_t first_rows_len,
+    const uint32_t *second_nodes, size_t second_nodes_len,
+    const uint32_t *second_rows, size_t second_rows_len,
+    bool growing,
+    uint32_t *out_nodes, size_t out_nodes_len,
+    uint32_t *out_rows, size_t out_rows_len,
+    size_t written[2]);
+
+/* The encodings of a batch joined in their order, from the empty encoding on, written to the output; written is its nodes
+   and its rows. The working store takes as much as the output and is all zeros afterwards. Refused with 1, 2, 6; 6 leaves
+   output and working store all zeros. */
+uint32_t noddrefyr_merge(
+    const uint32_t *nodes, size_t nodes_len,
+    const uint32_t *rows, size_t rows_len,
+    bool growing,
+    uint32_t *out_nodes, size_t out_nodes_len,
+    uint32_t *out_rows, size_t out_rows_len,
+    uint32_t *working_nodes, size_t working_nodes_len,
+    uint32_t *working_rows, size_t working_rows_len,
+    size_t written[2]);
+
+/* A batch of one or two encodings cut to max_length rows together, from their left or their right ends, written to the
+   output one after the other; written is its nodes and its rows. Strategy 0 cuts the longest first, 1 only the first, any
+   other only the second. Refused with 1, 4, 5, 3, 2. */
+uint32_t noddrefyr_truncate_encodings(
+    const uint32_t *nodes, size_t nodes_len,
+    const uint32_t *rows, size_t rows_len,
+    uint32_t max_length,
+    uint32_t stride,
+    uint32_t strategy,
+    bool left,
+    uint32_t *out_nodes, size_t out_nodes_len,
+    uint32_t *out_rows, size_t out_rows_len,
+    size_t written[2]);
+
+/* One encoding and its windows padded on the left or on the right to target_length rows, written to the output; written
+   is its nodes and its rows. The pad text lies in the added texts. Refused with 1, 14, 2. */
+uint32_t noddrefyr_pad(
+    const uint32_t *nodes, size_t nodes_len,
+    const uint32_t *rows, size_t rows_len,
+    const uint8_t *added, size_t added_len,
+    uint64_t target_length,
+    uint32_t pad_id,
+    uint32_t pad_type_id,
+    uint32_t text_start,
+    uint32_t text_length,
+    bool left,
+    uint32_t *out_nodes, size_t out_nodes_len,
+    uint32_t *out_rows, size_t out_rows_len,
+    size_t written[2]);
+
+/* Every encoding of a batch, its windows too, padded to fixed_length if it is fixed, else to that of the longest, in
+   both cases rounded up to a multiple (0 for none), written to the output; written is its nodes and its rows. Refused with
+   1, 14, 2. */
+uint32_t noddrefyr_pad_encodings(
+    const uint32_t *nodes, size_t nodes_len,
+    const uint32_t *rows, size_t rows_len,
+    const uint8_t *added, size_t added_len,
+    bool fixed,
+    uint64_t fixed_length,
+    uint64_t multiple,
+    uint32_t pad_id,
+    uint32_t pad_type_id,
+    uint32_t text_start,
+    uint32_t text_length,
+    bool left,
+    uint32_t *out_nodes, size_t out_nodes_len,
+    uint32_t *out_rows, size_t out_rows_len,
+    size_t written[2]);
+
 #ifdef __cplusplus
 }
 #endif

@@ -3,13 +3,17 @@
 -- where it is not.
 -- Assumes nothing: these are definitions.
 use mathlib.Core.Path.{_≡_}
-use mathlib.Core.Bool.{Bool, true, false}
+use mathlib.Core.Bool.{Bool, true, false, cond}
 use Prim.Native.Nat.{ℕ}
 use mathlib.Core.List.{List, [], _∷_}
+use lib.Dec.{eqb}
 use Rattle.record.specs.Flat.{flatNodes, flatRows}
 use Rattle.record.specs.Refusals.{numberOf}
-use Rattle.record.specs.Outcome.{Outcome, answered, refusalOf, countsOr, left}
+use Rattle.record.specs.Outcome.{Outcome, answered, refusalOf, countsOr, left, leftWorking}
 use Rattle.cut.specs.declared.Direction as direction
+use Rattle.cut.specs.declared.Strategy as strategy
+use Rattle.padded.specs.declared.PadToken as pad
+use Rattle.padding.specs.declared.PaddingStrategy as pads
 use Rattle.sequences.specs.declared.RangeAnswer as range
 use Rattle.sequences.specs.declared.CountAnswer as count
 use Rattle.sequences.specs.declared.SequenceAnswer as sequence
@@ -101,6 +105,19 @@ abbrev pub directionOf : Bool → direction.Direction
 directionOf true = direction.the-variants.Left
 directionOf false = direction.the-variants.Right
 
+-- which of a pair is cut
+abbrev pub strategyOf : ℕ → strategy.Strategy
+strategyOf n = cond (eqb n 0) strategy.the-variants.LongestFirst (cond (eqb n 1) strategy.the-variants.OnlyFirst strategy.the-variants.OnlySecond)
+
+-- what is added in padding
+abbrev pub padToken : ℕ → ℕ → ℕ → ℕ → pad.PadToken
+padToken id type-id start size = record { id = id; «type_id» = type-id; «text_start» = start; «text_length» = size }
+
+-- a fixed length, or that of the longest
+abbrev pub paddingOf : Bool → ℕ → pads.PaddingStrategy
+paddingOf true n = pads.the-variants.Fixed n
+paddingOf false n = pads.the-variants.BatchLongest
+
 -- ---- An operation that writes
 
 -- its refusal, the two counts in the place of what they were, and its output
@@ -109,3 +126,9 @@ pub record WritesOut (o : Outcome) (r : ℕ) (was counts nodes rows nodes′ row
   pub counts-are : counts ≡ countsOr was (answered o)
   pub nodes-left : nodes′ ≡ left flatNodes o nodes
   pub rows-left : rows′ ≡ left flatRows o rows
+
+-- the same, and the working store lent beside its output
+pub record WritesOutWith (o : Outcome) (r : ℕ) (was counts nodes rows working-nodes working-rows nodes′ rows′ working-nodes′ working-rows′ : List ℕ) : Type 0 where
+  pub writes-out : WritesOut o r was counts nodes rows nodes′ rows′
+  pub working-nodes-left : working-nodes′ ≡ leftWorking o working-nodes
+  pub working-rows-left : working-rows′ ≡ leftWorking o working-rows

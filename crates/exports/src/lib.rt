@@ -10,17 +10,23 @@ ghost use Rattle.sequences.specs.Answers.{rangeAnswer, countAnswer, sequenceAns
 ghost use Rattle.lookup.specs.Lookup.{wordToTokens, wordToChars, charToToken, tokenToChars, tokenToWord, charToWord};
 ghost use Rattle.lookup.specs.Answers.{tokensAnswer, charsAnswer, tokenAnswer, tokenCharsAnswer, tokenWordAnswer, wordAnswer};
 ghost use Rattle.truncation.specs.Truncate.{truncateOutcome};
+ghost use Rattle.truncate_pair.specs.TruncatePair.{truncatePairOutcome};
+ghost use Rattle.padding.specs.Padding.{padOutcome, padEncodingsOutcome};
+ghost use Rattle.merge.specs.Outcomes.{joinOutcome, foldOutcome};
 ghost use Rattle.text.specs.RowText.{textAnswer};
 ghost use Rattle.text.specs.NodeSpan.{spanAnswer};
-ghost use Rattle.exports.specs.Crossing.{Crosses, WritesOut, directionOf, rangeCrossed, countCrossed, sequenceCrossed, columnCrossed, tokensCrossed, charsCrossed, tokenCrossed, tokenCharsCrossed, tokenWordCrossed, wordCrossed, textCrossed, spanCrossed};
+ghost use Rattle.exports.specs.Crossing.{Crosses, WritesOut, WritesOutWith, directionOf, strategyOf, padToken, paddingOf, rangeCrossed, countCrossed, sequenceCrossed, columnCrossed, tokensCrossed, charsCrossed, tokenCrossed, tokenCharsCrossed, tokenWordCrossed, wordCrossed, textCrossed, spanCrossed};
 use batch::Shape;
 use cut::Direction;
+use cut::Strategy;
 use lookup::CharsAnswer;
 use lookup::TokenAnswer;
 use lookup::TokenCharsAnswer;
 use lookup::TokenWordAnswer;
 use lookup::TokensAnswer;
 use lookup::WordAnswer;
+use padded::PadToken;
+use padding::PaddingStrategy;
 use record::Place;
 use record::Refusal;
 use record::Row;
@@ -409,6 +415,228 @@ pub extern "C" fn noddrefyr_truncate(
 {
     let direction = direction_of(left);
     let answer = truncation::truncate(nodes, rows, max, stride, direction, out_nodes, out_rows);
+    match answer {
+        Written::Refused(k) => k.number(),
+        Written::Done { nodes: n, rows: r } => {
+            *written = [n, r];
+            0
+        }
+    }
+}
+
+// Two encodings joined, written to the output; written is its nodes and its rows. Growing moves the second's offsets on by
+// the first's last offset end. Refused with 1, 2, 6; 6 (an offset past 32 bits) leaves the output all zeros.
+#[no_mangle]
+pub extern "C" fn noddrefyr_merge_with(
+    first_nodes: &[u32],
+    first_rows: &[u32],
+    second_nodes: &[u32],
+    second_rows: &[u32],
+    growing: bool,
+    out_nodes: &mut [u32],
+    out_rows: &mut [u32],
+    written: &mut [usize; 2],
+) -> u32
+    ensures { λ r. ⌜ WritesOut (joinOutcome growing (read (now («first_nodes» .entry)) (now («first_rows» .entry))) (read (now («second_nodes» .entry)) (now («second_rows» .entry))) (now («out_nodes» .entry)) (now («out_rows» .entry))) r (now (written .entry)) (now (written .exit)) (now («out_nodes» .entry)) (now («out_rows» .entry)) (now («out_nodes» .exit)) (now («out_rows» .exit)) ⌝ }
+{
+    let answer = merging::merge_with(
+        first_nodes,
+        first_rows,
+        second_nodes,
+        second_rows,
+        growing,
+        out_nodes,
+        out_rows,
+    );
+    match answer {
+        Written::Refused(k) => k.number(),
+        Written::Done { nodes: n, rows: r } => {
+            *written = [n, r];
+            0
+        }
+    }
+}
+
+// The encodings of a batch joined in their order, from the empty encoding on, written to the output; written is its nodes
+// and its rows. The working store takes as much as the output and is all zeros afterwards. Refused with 1, 2, 6; 6 leaves
+// output and working store all zeros.
+#[no_mangle]
+pub extern "C" fn noddrefyr_merge(
+    nodes: &[u32],
+    rows: &[u32],
+    growing: bool,
+    out_nodes: &mut [u32],
+    out_rows: &mut [u32],
+    working_nodes: &mut [u32],
+    working_rows: &mut [u32],
+    written: &mut [usize; 2],
+) -> u32
+    ensures { λ r. ⌜ WritesOutWith (foldOutcome growing (read (now (nodes .entry)) (now (rows .entry))) (now («out_nodes» .entry)) (now («out_rows» .entry)) (now («working_nodes» .entry)) (now («working_rows» .entry))) r (now (written .entry)) (now (written .exit)) (now («out_nodes» .entry)) (now («out_rows» .entry)) (now («working_nodes» .entry)) (now («working_rows» .entry)) (now («out_nodes» .exit)) (now («out_rows» .exit)) (now («working_nodes» .exit)) (now («working_rows» .exit)) ⌝ }
+{
+    let answer = folding::merge(
+        nodes,
+        rows,
+        growing,
+        out_nodes,
+        out_rows,
+        working_nodes,
+        working_rows,
+    );
+    match answer {
+        Written::Refused(k) => k.number(),
+        Written::Done { nodes: n, rows: r } => {
+            *written = [n, r];
+            0
+        }
+    }
+}
+
+fn strategy_of(strategy: u32) -> Strategy
+    ensures { λ r. ⌜ r ≡ strategyOf strategy ⌝ }
+{
+    if strategy == 0 {
+        return Strategy::LongestFirst;
+    }
+    if strategy == 1 {
+        return Strategy::OnlyFirst;
+    }
+    Strategy::OnlySecond
+}
+
+// A batch of one or two encodings cut to max_length rows together, from their left or their right ends, written to the
+// output one after the other; written is its nodes and its rows. Strategy 0 cuts the longest first, 1 only the first, any
+// other only the second. Refused with 1, 4, 5, 3, 2.
+#[no_mangle]
+pub extern "C" fn noddrefyr_truncate_encodings(
+    nodes: &[u32],
+    rows: &[u32],
+    max_length: u32,
+    stride: u32,
+    strategy: u32,
+    left: bool,
+    out_nodes: &mut [u32],
+    out_rows: &mut [u32],
+    written: &mut [usize; 2],
+) -> u32
+    ensures { λ r. ⌜ WritesOut (truncatePairOutcome (now («out_nodes» .entry)) (now («out_rows» .entry)) «max_length» stride (strategyOf strategy) (directionOf left) (read (now (nodes .entry)) (now (rows .entry)))) r (now (written .entry)) (now (written .exit)) (now («out_nodes» .entry)) (now («out_rows» .entry)) (now («out_nodes» .exit)) (now («out_rows» .exit)) ⌝ }
+{
+    let direction = direction_of(left);
+    let chosen = strategy_of(strategy);
+    let answer = truncate_pair::truncate_encodings(
+        nodes,
+        rows,
+        max_length,
+        stride,
+        chosen,
+        direction,
+        out_nodes,
+        out_rows,
+    );
+    match answer {
+        Written::Refused(k) => k.number(),
+        Written::Done { nodes: n, rows: r } => {
+            *written = [n, r];
+            0
+        }
+    }
+}
+
+// One encoding and its windows padded on the left or on the right to target_length rows, written to the output; written
+// is its nodes and its rows. The pad text lies in the added texts. Refused with 1, 14, 2.
+#[no_mangle]
+pub extern "C" fn noddrefyr_pad(
+    nodes: &[u32],
+    rows: &[u32],
+    added: &[u8],
+    target_length: u64,
+    pad_id: u32,
+    pad_type_id: u32,
+    text_start: u32,
+    text_length: u32,
+    left: bool,
+    out_nodes: &mut [u32],
+    out_rows: &mut [u32],
+    written: &mut [usize; 2],
+) -> u32
+    ensures { λ r. ⌜ WritesOut (padOutcome (now («out_nodes» .entry)) (now («out_rows» .entry)) (length (now (added .entry))) «target_length» (padToken «pad_id» «pad_type_id» «text_start» «text_length») (directionOf left) (read (now (nodes .entry)) (now (rows .entry)))) r (now (written .entry)) (now (written .exit)) (now («out_nodes» .entry)) (now («out_rows» .entry)) (now («out_nodes» .exit)) (now («out_rows» .exit)) ⌝ }
+{
+    let direction = direction_of(left);
+    let token = PadToken {
+        id: pad_id,
+        type_id: pad_type_id,
+        text_start,
+        text_length,
+    };
+    let answer = padding::pad(
+        nodes,
+        rows,
+        added,
+        target_length,
+        token,
+        direction,
+        out_nodes,
+        out_rows,
+    );
+    match answer {
+        Written::Refused(k) => k.number(),
+        Written::Done { nodes: n, rows: r } => {
+            *written = [n, r];
+            0
+        }
+    }
+}
+
+fn padding_of(fixed: bool, fixed_length: u64) -> PaddingStrategy
+    ensures { λ r. ⌜ r ≡ paddingOf fixed «fixed_length» ⌝ }
+{
+    if fixed {
+        PaddingStrategy::Fixed(fixed_length)
+    } else {
+        PaddingStrategy::BatchLongest
+    }
+}
+
+// Every encoding of a batch, its windows too, padded to fixed_length if it is fixed, else to that of the longest, in
+// both cases rounded up to a multiple (0 for none), written to the output; written is its nodes and its rows. Refused with
+// 1, 14, 2.
+#[no_mangle]
+pub extern "C" fn noddrefyr_pad_encodings(
+    nodes: &[u32],
+    rows: &[u32],
+    added: &[u8],
+    fixed: bool,
+    fixed_length: u64,
+    multiple: u64,
+    pad_id: u32,
+    pad_type_id: u32,
+    text_start: u32,
+    text_length: u32,
+    left: bool,
+    out_nodes: &mut [u32],
+    out_rows: &mut [u32],
+    written: &mut [usize; 2],
+) -> u32
+    ensures { λ r. ⌜ WritesOut (padEncodingsOutcome (now («out_nodes» .entry)) (now («out_rows» .entry)) (length (now (added .entry))) (paddingOf fixed «fixed_length») multiple (padToken «pad_id» «pad_type_id» «text_start» «text_length») (directionOf left) (read (now (nodes .entry)) (now (rows .entry)))) r (now (written .entry)) (now (written .exit)) (now («out_nodes» .entry)) (now («out_rows» .entry)) (now («out_nodes» .exit)) (now («out_rows» .exit)) ⌝ }
+{
+    let direction = direction_of(left);
+    let strategy = padding_of(fixed, fixed_length);
+    let token = PadToken {
+        id: pad_id,
+        type_id: pad_type_id,
+        text_start,
+        text_length,
+    };
+    let answer = padding::pad_encodings(
+        nodes,
+        rows,
+        added,
+        strategy,
+        multiple,
+        token,
+        direction,
+        out_nodes,
+        out_rows,
+    );
     match answer {
         Written::Refused(k) => k.number(),
         Written::Done { nodes: n, rows: r } => {
