@@ -1,3 +1,5 @@
+mod Answers
+mod Bytes
 mod Gathering
 mod Parts
 mod Samples

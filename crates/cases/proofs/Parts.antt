@@ -1,18 +1,20 @@
--- The list at a place of a case, by the tests that find it, and two lists that are the same. Assumes nothing.
+-- The list at a place of a case, by the tests that find it, and whether it ends the case. Assumes nothing.
 use Prim.Native.Nat.{ℕ, _+_, _-_, _≤_, _<_}
-use mathlib.Core.Bool.{true, false}
+use mathlib.Core.Path.{refl}
+use mathlib.Core.Bool.{true}
 use mathlib.Core.List.{List}
 use lib.ListN.{length, getD}
 use borrow.Author.Tests.{lt-ltb, le-ltb, le-leb, lt-leb}
 use native.Mathlib.Omega.{arith}
-use Rattle.cases.specs.Case.{PartAt}
+use Rattle.cases.specs.Case.{PartAt, LastAt, partAt, noList}
+use Rattle.cases.specs.declared.Part.{Part}
 
 module _ (case : List ℕ) (at : ℕ) where
-  pub past : length case ≤ at → PartAt case at (record { fits = false; start = length case; end = length case })
+  pub past : length case ≤ at → PartAt case at (noList (length case))
   past out = record { exact = rw (le-ltb at (length case) out); ordered = omega arith; inside = omega arith }
 
   pub too-long : at < length case → length case - (at + 1) < getD case at 0
-      → PartAt case at (record { fits = false; start = length case; end = length case })
+      → PartAt case at (noList (length case))
   too-long here long =
       record {
         exact = rw (lt-ltb at (length case) here, lt-leb (getD case at 0) (length case - (at + 1)) long);
@@ -27,4 +29,20 @@ module _ (case : List ℕ) (at : ℕ) where
         exact = rw (lt-ltb at (length case) here, le-leb (getD case at 0) (length case - (at + 1)) fits);
         ordered = omega arith;
         inside = omega arith;
+      }
+
+  -- a list with numbers after it, and one that ends the case
+  pub followed : (r : Part) → PartAt case at r → r .end < length case
+      → LastAt case at (noList (length case))
+  followed r p more =
+      let before : partAt case at .end < length case = rw (p .exact) at more in
+      record { exact = rw (lt-ltb (partAt case at .end) (length case) before); ordered = omega arith; ends = refl }
+
+  pub last : (r : Part) → PartAt case at r → length case ≤ r .end → LastAt case at r
+  last r p reached =
+      let end : length case ≤ partAt case at .end = rw (p .exact) at reached in
+      record {
+        exact = rw (le-ltb (partAt case at .end) (length case) end) (p .exact);
+        ordered = p .ordered;
+        ends = omega (arith, p .inside);
       }

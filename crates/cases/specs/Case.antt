@@ -1,10 +1,11 @@
 -- What a stored case is: "decimal u32 numbers separated by single spaces", "each list as its length then its numbers".
 -- Assumes nothing.
-use Prim.Native.Nat.{ℕ, zero, suc, _+_, _-_, _≤_}
+use Prim.Native.Nat.{ℕ, zero, suc, _+_, _-_, _≤_, _<_}
 use mathlib.Core.Path.{_≡_}
+use mathlib.Core.Logic.{_⊎_}
 use mathlib.Core.Bool.{Bool, true, false}
 use mathlib.Core.List.{List, [], _∷_}
-use lib.ListN.{length, getD, take}
+use lib.ListN.{length, getD, take, drop}
 use lib.Dec.{leb, ltb, eqb}
 use Rattle.lines.specs.Decimal.{numberAt}
 use Rattle.lines.specs.declared.Number.{Number}
@@ -12,7 +13,7 @@ use Rattle.lines.specs.declared.Number.the-variants.{Bad, Read}
 use Rattle.cases.specs.declared.Numbers.{Numbers}
 use Rattle.cases.specs.declared.Part.{Part}
 use Rattle.cases.specs.declared.Outcome.{Outcome}
-use Rattle.cases.specs.declared.Outcome.the-variants.{Same, Differs}
+use Rattle.cases.specs.declared.Outcome.the-variants.{Skipped, Same, Differs, Bad}
 
 -- the byte of a space
 abbrev pub space : ℕ
@@ -70,14 +71,18 @@ abbrev pub pickPart : Bool → Part → Part → Part
 pickPart true a b = a
 pickPart false a b = b
 
--- the list whose length stands at a place, if it lies within the case; else nothing, at the case's end
+-- no list, at the end of a case of so many numbers
+abbrev pub noList : ℕ → Part
+noList total = record { fits = false; start = total; end = total }
+
+-- the list whose length stands at a place, if it lies within the case
 abbrev pub partAt : List ℕ → ℕ → Part
 partAt case at =
     pickPart (ltb at (length case))
     (pickPart (leb (getD case at 0) (length case - (at + 1)))
     (record { fits = true; start = at + 1; end = at + 1 + getD case at 0 })
-    (record { fits = false; start = length case; end = length case }))
-    (record { fits = false; start = length case; end = length case })
+    (noList (length case)))
+    (noList (length case))
 
 -- What finding a list promises. `ordered` and `inside` follow from `exact`, and are stated so that `&case[start..end]` needs
 -- no proof.
@@ -86,12 +91,46 @@ pub record PartAt (case : List ℕ) (at : ℕ) (r : Part) : Type 0 where
   pub ordered : r .start ≤ r .end
   pub inside : r .end ≤ length case
 
+-- the list whose length stands at a place, if nothing follows it in the case
+abbrev pub lastAt : List ℕ → ℕ → Part
+lastAt case at =
+    pickPart (ltb (partAt case at .end) (length case))
+    (noList (length case))
+    (partAt case at)
+
+-- What finding the last list promises, with facts beside `exact` as above.
+pub record LastAt (case : List ℕ) (at : ℕ) (r : Part) : Type 0 where
+  pub exact : r ≡ lastAt case at
+  pub ordered : r .start ≤ r .end
+  pub ends : r .end ≡ length case
+
 -- a test that says exactly whether something holds
 abbrev pub Decides : Bool → Type 0 → Type 0
 Decides true P = P
 Decides false P = P → ⊥
 
+-- What putting the numbers of a list into bytes promises: they stand at the start, or they are too many or no bytes.
+abbrev pub PutBytes : Bool → List ℕ → List ℕ → Type 0
+PutBytes true list stored = (length list ≤ length stored) × (take (length list) stored ≡ list)
+PutBytes false list stored = length list ≤ length stored → ((i : ℕ) → i < length list → getD list i 0 < 256) → ⊥
+
+-- What putting the list at a place into bytes promises: its numbers stand at the start, unless it gives none. `ordered`,
+-- `inside` and `held` are stated so that the list and its bytes can be lent.
+pub record BytesAt (case : List ℕ) (at : ℕ) (r : Part) (stored : List ℕ) : Type 0 where
+  pub found : (r ≡ partAt case at) ⊎ (r ≡ noList (length case))
+  pub ordered : r .start ≤ r .end
+  pub inside : r .end ≤ length case
+  pub held : r .end - r .start ≤ length stored
+  pub put : take (r .end - r .start) stored ≡ take (r .end - r .start) (drop (r .start) case)
+
 -- the outcome of a case whose answers are the same, or not
 abbrev pub comparison : Bool → Outcome
 comparison true = Same
 comparison false = Differs
+
+-- what an outcome says of the numbers given for those of a case from a place on, to its end
+abbrev pub Told : Outcome → List ℕ → List ℕ → ℕ → Type 0
+Told Skipped given case at = ⊥
+Told Same given case at = (length case ≡ at + length given) × (given ≡ drop at case)
+Told Differs given case at = (length case ≡ at + length given) × (given ≡ drop at case → ⊥)
+Told Bad given case at = length case ≡ at + length given → ⊥

@@ -2,11 +2,15 @@
 //
 // A line is decimal numbers with single spaces between them. A list within a case is its length, then its numbers.
 ghost use mathlib.Core.Path.{_≡_};
-ghost use lib.ListN.{length};
-ghost use Rattle.cases.specs.Case.{Gathered, PartAt, Decides, comparison};
+ghost use Prim.Native.Nat.{min};
+ghost use mathlib.Core.List.{_∷_};
+ghost use lib.ListN.{length, getD, take};
+ghost use Rattle.cases.specs.Case.{Gathered, PartAt, LastAt, Decides, PutBytes, BytesAt, noList, Told, comparison};
 use lines::Number;
 
 const SPACE: u8 = b' ';
+
+const LARGEST_BYTE: u32 = 255;
 
 // Whether a line could be read, and how many numbers it has: 0 if it could not.
 pub struct Numbers {
@@ -80,6 +84,44 @@ pub fn list_at(case: &[u32], at: usize) -> Part
     }
 }
 
+fn no_list(total: usize) -> Part
+    ensures { λ r. ⌜ r ≡ noList total ⌝ }
+{
+    Part {
+        fits: false,
+        start: total,
+        end: total,
+    }
+}
+
+// The list whose length stands at a place, if it ends the case.
+pub fn last_list(case: &[u32], at: usize) -> Part
+    ensures { λ r. ⌜ LastAt (now (case .entry)) at r ⌝ }
+{
+    let part = list_at(case, at);
+    let total = case.len();
+    let end = part.end;
+    if end < total {
+        return no_list(total);
+    }
+    part
+}
+
+// The number at a place of a case, 0 past its end.
+pub fn number_at(case: &[u32], at: usize) -> u32
+    ensures { λ r. ⌜ r ≡ getD (now (case .entry)) at 0 ⌝ }
+{
+    if at < case.len() { case[at] } else { 0 }
+}
+
+// The number at a place of a case as a length, at most so much.
+pub fn length_at(case: &[u32], at: usize, most: usize) -> usize
+    ensures { λ r. ⌜ r ≡ min (getD (now (case .entry)) at 0) most ⌝ }
+{
+    let length = wide(number_at(case, at));
+    if length < most { length } else { most }
+}
+
 // A stored number as a length.
 pub fn wide(number: u32) -> usize
     ensures { λ r. ⌜ r ≡ number ⌝ }
@@ -104,6 +146,73 @@ pub fn equal(a: &[u32], b: &[u32]) -> bool
     true
 }
 
+// Whether numbers begin with those of a list.
+pub fn begins(numbers: &[u32], list: &[u32]) -> bool
+    ensures { λ r. ⌜ Decides r (take (length (now (list .entry))) (now (numbers .entry)) ≡ now (list .entry)) ⌝ }
+{
+    let count = list.len();
+    if numbers.len() < count {
+        return false;
+    }
+    equal(&numbers[..count], list)
+}
+
+// Whether bytes are the same as the numbers of a list.
+pub fn same_bytes(bytes: &[u8], numbers: &[u32]) -> bool
+    ensures { λ r. ⌜ Decides r (now (bytes .entry) ≡ now (numbers .entry)) ⌝ }
+{
+    if bytes.len() != numbers.len() {
+        return false;
+    }
+    let mut i: usize = 0;
+    while i < bytes.len() {
+        if number_of(bytes[i]) != numbers[i] {
+            return false;
+        }
+        i += 1;
+    }
+    true
+}
+
+fn number_of(byte: u8) -> u32
+    ensures { λ r. ⌜ r ≡ byte ⌝ }
+{
+    byte as u32
+}
+
+// Puts the numbers of a list at the start of `bytes`. A list with more of them than there is room for, or with one that is
+// no byte, cannot be put there.
+pub fn put_bytes(numbers: &[u32], bytes: &mut [u8]) -> bool
+    ensures { λ r. ⌜ PutBytes r (now (numbers .entry)) (now (bytes .exit)) ⌝ }
+{
+    if numbers.len() > bytes.len() {
+        return false;
+    }
+    let mut i: usize = 0;
+    while i < numbers.len() {
+        let number = numbers[i];
+        if number > LARGEST_BYTE {
+            return false;
+        }
+        bytes[i] = number as u8;
+        i += 1;
+    }
+    true
+}
+
+// The list whose length stands at a place, put at the start of `bytes`, if its numbers are bytes and there is room for them.
+pub fn bytes_at(case: &[u32], at: usize, bytes: &mut [u8]) -> Part
+    ensures { λ r. ⌜ BytesAt (now (case .entry)) at r (now (bytes .exit)) ⌝ }
+{
+    let part = list_at(case, at);
+    let start = part.start;
+    let end = part.end;
+    if put_bytes(&case[start..end], bytes) {
+        return part;
+    }
+    no_list(case.len())
+}
+
 // What a line turned out to be.
 pub enum Outcome {
     Skipped,
@@ -121,4 +230,22 @@ pub fn compared(same: bool) -> Outcome
     } else {
         Outcome::Differs
     }
+}
+
+// Whether a case is, from a place on, a refusal and the numbers that were lent. One with more or fewer numbers is bad.
+pub fn answered(refusal: u32, lent: &[u32], case: &[u32], at: usize) -> Outcome
+    ensures { λ r. ⌜ Told r (refusal ∷ now (lent .entry)) (now (case .entry)) at ⌝ }
+{
+    let total = case.len();
+    if total <= at {
+        return Outcome::Bad;
+    }
+    let start = at + 1;
+    if total - start != lent.len() {
+        return Outcome::Bad;
+    }
+    if case[at] != refusal {
+        return Outcome::Differs;
+    }
+    compared(equal(lent, &case[start..]))
 }
