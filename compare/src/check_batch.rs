@@ -9,15 +9,14 @@ use tokenizers::rng::Rng;
 
 pub const OPERATION: Operation = Operation {
     name: "check_batch",
-    format: "1 nodes rows refusal encodings (encodings is 0 when refused)",
+    format: "1 nodes rows refusal encodings",
     compare,
     store,
     bench: times,
 };
 
 fn line(b: &Batch, expected: Option<usize>) -> Line {
-    let answer = Line::of(1).list(&b.nodes).list(&b.rows).number(expected.is_none() as u32);
-    answer.number(expected.unwrap_or(0) as u32)
+    Line::of(1).list(&b.nodes).list(&b.rows).answer(expected.is_none() as u32, &[expected.unwrap_or(0) as u32])
 }
 
 fn case(t: &mut Tally, b: &Batch) {

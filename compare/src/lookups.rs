@@ -155,8 +155,7 @@ fn line(l: &Lookup, b: &Batch, question: [u32; 2], (refusal, values): &Answer) -
         Asked::WordInSequence | Asked::PlaceInSequence => 2,
     };
     let asked = question[..options].iter().fold(Line::of(l.number).list(&b.nodes).list(&b.rows), |line, x| line.number(*x));
-    // What is lent stays as it was when refused; the stored case has zeros there, which are not looked at.
-    values.iter().fold(asked.number(*refusal), |line, x| line.number(if *refusal == 0 { *x } else { 0 }))
+    asked.answer(*refusal, values)
 }
 
 fn expected(l: &Lookup, e: &Option<Encoding>, question: [u32; 2], lent: usize) -> Answer {

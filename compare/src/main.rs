@@ -6,7 +6,11 @@ mod inputs;
 mod lookups;
 mod made;
 mod making;
+mod merging;
 mod ours;
+mod outputs;
+mod padding;
+mod pairs;
 mod sequence_column;
 mod tally;
 mod texts;
@@ -29,20 +33,31 @@ pub struct Operation {
     pub bench: fn(),
 }
 
+/// What cannot cross the C interface: it has stored cases, and only the replay program runs it.
+pub struct Replayed {
+    pub name: &'static str,
+    pub format: &'static str,
+    pub store: fn(&mut Rng) -> Vec<Stored>,
+}
+
 fn operations() -> Vec<Operation> {
     let mut all = vec![check_batch::OPERATION];
     all.extend(lookups::OPERATIONS);
     all.extend([sequence_column::OPERATION, making::FROM_TOKENS, making::SET_SEQUENCE_ID, texts::TEXT, texts::SPAN, truncating::OPERATION]);
+    all.extend([merging::MERGE_WITH, merging::MERGE, pairs::OPERATION, padding::PAD, padding::PAD_ENCODINGS]);
     all
 }
+
+const REPLAYED: [Replayed; 1] = [texts::TEXT_PART];
 
 const SEED: u64 = 1;
 const COUNT: u64 = 1_000;
 
-fn compare(seed: u64, count: u64) -> bool {
+/// All operations and the files made of them, or only the operation that is named.
+fn compare(seed: u64, count: u64, only: Option<&str>) -> bool {
     println!("seed {seed}, {count} random inputs per operation, beside the exhaustive ones");
-    let mut good = made::all_up_to_date(&operations());
-    for operation in operations() {
+    let mut good = only.is_some() || made::all_up_to_date(&operations(), &REPLAYED);
+    for operation in operations().into_iter().filter(|o| only.is_none_or(|name| name == o.name)) {
         let mut tally = Tally::default();
         (operation.compare)(&mut tally, &mut Rng(seed), count);
         good &= tally.report(operation.name);
@@ -54,15 +69,16 @@ fn main() -> ExitCode {
     let words: Vec<String> = std::env::args().skip(1).collect();
     let words: Vec<&str> = words.iter().map(String::as_str).collect();
     let good = match words[..] {
-        [] => compare(SEED, COUNT),
+        [] => compare(SEED, COUNT, None),
         ["bench"] => {
             operations().iter().for_each(|o| (o.bench)());
             true
         }
+        [name] if operations().iter().any(|o| o.name == name) => compare(SEED, COUNT, Some(name)),
         ["header"] => made::header().write(),
-        ["store"] => made::stored_cases(&operations()).iter().all(made::Made::write),
+        ["store"] => made::stored_cases(&operations(), &REPLAYED).iter().all(made::Made::write),
         [seed, count] => match (seed.parse(), count.parse()) {
-            (Ok(seed), Ok(count)) => compare(seed, count),
+            (Ok(seed), Ok(count)) => compare(seed, count, None),
             _ => usage(),
         },
         _ => usage(),
@@ -71,6 +87,6 @@ fn main() -> ExitCode {
 }
 
 fn usage() -> bool {
-    eprintln!("usage: compare/run [SEED COUNT | bench | header | store]");
+    eprintln!("usage: compare/run [SEED COUNT | OPERATION | bench | header | store]");
     false
 }

@@ -1,10 +1,11 @@
 //! from_tokens and set_sequence_id against the Rust's, in outputs that are long enough or not.
 use crate::lookups::{bench_batch, one};
 use crate::ours::{self, Output, BEFORE};
-use crate::tally::{Line, Stored, Tally};
+use crate::outputs::{output, outputs, stored};
+use crate::tally::{Line, Stored, Tally, LENT};
 use crate::{bench, inputs, Operation};
 use std::hint::black_box;
-use tokenizers::bridge::{node_count, row_count, to_batch, Batch, MAX_LEVELS, MAX_NODES, MAX_ROWS, NODE, ROW, SEQUENCES};
+use tokenizers::bridge::{Batch, MAX_ROWS, NODE, ROW, SEQUENCES};
 use tokenizers::rng::Rng;
 use tokenizers::{Encoding, Token};
 
@@ -12,7 +13,7 @@ const TOKEN: usize = 5;
 
 pub const FROM_TOKENS: Operation = Operation {
     name: "from_tokens",
-    format: "12 tokens type node-numbers row-numbers refusal nodes rows (the output after the call; 7 in each number before it)",
+    format: "12 tokens nothing type refusal nodes rows out-nodes out-rows",
     compare: compare_tokens,
     store: store_tokens,
     bench: time_tokens,
@@ -20,7 +21,7 @@ pub const FROM_TOKENS: Operation = Operation {
 
 pub const SET_SEQUENCE_ID: Operation = Operation {
     name: "set_sequence_id",
-    format: "13 nodes rows sequence node-numbers row-numbers refusal nodes rows (the output after the call; 7 in each number before it)",
+    format: "13 nodes rows sequence refusal nodes rows out-nodes out-rows",
     compare: compare_sequence,
     store: store_sequence,
     bench: time_sequence,
@@ -32,54 +33,17 @@ fn rust_tokens(tokens: &[u32], type_id: u32) -> Encoding {
     Encoding::from_tokens(tokens.chunks(TOKEN).map(token).collect(), type_id)
 }
 
-/// The levels of windows below an encoding.
-fn levels(e: &Encoding) -> usize {
-    e.get_overflowing().iter().map(|w| 1 + levels(w)).max().unwrap_or(0)
-}
-
-fn beyond_limits(e: &Encoding, counts: [usize; 2]) -> bool {
-    counts[0] > MAX_NODES || counts[1] > MAX_ROWS || levels(e) > MAX_LEVELS
-}
-
-/// What is left in an output of so many numbers, each `before` at first: a refusal, or the result.
-pub fn output(result: Result<&Encoding, u32>, nodes: usize, rows: usize, before: u32) -> Output {
-    let mut out = Batch { nodes: vec![before; nodes], rows: vec![before; rows] };
-    let refused = |refusal, out| Output { refusal, counts: [BEFORE as usize; 2], out };
-    let e = match result {
-        Err(refusal) => return refused(refusal, out),
-        Ok(e) => e,
-    };
-    let counts = [node_count(e), row_count(e)];
-    if counts[0] * NODE > nodes || counts[1] * ROW > rows || beyond_limits(e, counts) {
-        return refused(2, out);
-    }
-    let b = to_batch(std::slice::from_ref(e)).expect("numbers of a batch");
-    out.nodes[..b.nodes.len()].copy_from_slice(&b.nodes);
-    out.rows[..b.rows.len()].copy_from_slice(&b.rows);
-    Output { refusal: 0, counts, out }
-}
-
-fn stored(line: Line, want: Output) -> Line {
-    let line = line.number(want.out.nodes.len() as u32).number(want.out.rows.len() as u32).number(want.refusal);
-    line.list(&want.out.nodes).list(&want.out.rows)
-}
-
-/// Outputs of just enough numbers, of some more, and of one number too few for the nodes and for the rows.
-pub fn outputs(nodes: usize, rows: usize) -> [(usize, usize); 4] {
-    [(nodes, rows), (nodes + 3, rows + 4), (nodes.saturating_sub(1), rows), (nodes, rows.saturating_sub(1))]
-}
-
 // ---- from_tokens
 
 fn made(tokens: &[u32], type_id: u32, nodes: usize, rows: usize, before: u32) -> Output {
     if !tokens.len().is_multiple_of(TOKEN) {
         return output(Err(1), nodes, rows, before);
     }
-    output(Ok(&rust_tokens(tokens, type_id)), nodes, rows, before)
+    output(Ok(&[rust_tokens(tokens, type_id)]), nodes, rows, before)
 }
 
 fn tokens_line(tokens: &[u32], type_id: u32, nodes: usize, rows: usize) -> Line {
-    stored(Line::of(12).list(tokens).number(type_id), made(tokens, type_id, nodes, rows, 7))
+    stored(Line::of(12).list(tokens).list(&[]).number(type_id), &made(tokens, type_id, nodes, rows, LENT))
 }
 
 fn case_tokens(t: &mut Tally, tokens: &[u32], type_id: u32) {
@@ -137,11 +101,11 @@ fn with_sequence(b: &Batch, id: u32, nodes: usize, rows: usize, before: u32) -> 
         return output(Err(13), nodes, rows, before);
     }
     e.set_sequence_id(id as usize);
-    output(Ok(&e), nodes, rows, before)
+    output(Ok(&[e]), nodes, rows, before)
 }
 
 fn sequence_line(b: &Batch, id: u32, nodes: usize, rows: usize) -> Line {
-    stored(Line::of(13).list(&b.nodes).list(&b.rows).number(id), with_sequence(b, id, nodes, rows, 7))
+    stored(Line::of(13).list(&b.nodes).list(&b.rows).number(id), &with_sequence(b, id, nodes, rows, LENT))
 }
 
 fn case_sequence(t: &mut Tally, b: &Batch, id: u32) {

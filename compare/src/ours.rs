@@ -54,6 +54,61 @@ impl Lent {
         unsafe { bindings::noddrefyr_truncate(bn.as_ptr(), bn.len(), br.as_ptr(), br.len(), max, stride, left, n.as_mut_ptr(), n.len(), r.as_mut_ptr(), r.len(), counts) }
     }
 
+    pub fn merge_with(&mut self, a: &Batch, b: &Batch, growing: bool) -> u32 {
+        let (n, r) = (&mut self.out.nodes, &mut self.out.rows);
+        let counts = self.counts.as_mut_ptr();
+        unsafe {
+            bindings::noddrefyr_merge_with(
+                a.nodes.as_ptr(), a.nodes.len(), a.rows.as_ptr(), a.rows.len(), b.nodes.as_ptr(), b.nodes.len(), b.rows.as_ptr(), b.rows.len(),
+                growing, n.as_mut_ptr(), n.len(), r.as_mut_ptr(), r.len(), counts,
+            )
+        }
+    }
+
+    pub fn merge(&mut self, b: &Batch, growing: bool, working: &mut Batch) -> u32 {
+        let (bn, br, n, r) = (&b.nodes, &b.rows, &mut self.out.nodes, &mut self.out.rows);
+        let (wn, wr) = (&mut working.nodes, &mut working.rows);
+        let counts = self.counts.as_mut_ptr();
+        unsafe {
+            bindings::noddrefyr_merge(
+                bn.as_ptr(), bn.len(), br.as_ptr(), br.len(), growing, n.as_mut_ptr(), n.len(), r.as_mut_ptr(), r.len(),
+                wn.as_mut_ptr(), wn.len(), wr.as_mut_ptr(), wr.len(), counts,
+            )
+        }
+    }
+
+    pub fn truncate_encodings(&mut self, b: &Batch, max_length: u32, stride: u32, strategy: u32, left: bool) -> u32 {
+        let (bn, br, n, r) = (&b.nodes, &b.rows, &mut self.out.nodes, &mut self.out.rows);
+        let counts = self.counts.as_mut_ptr();
+        unsafe {
+            bindings::noddrefyr_truncate_encodings(
+                bn.as_ptr(), bn.len(), br.as_ptr(), br.len(), max_length, stride, strategy, left, n.as_mut_ptr(), n.len(), r.as_mut_ptr(), r.len(), counts,
+            )
+        }
+    }
+
+    pub fn pad(&mut self, b: &Batch, length: u32, pad: Pad, added: &[u8]) -> u32 {
+        let (bn, br, n, r) = (&b.nodes, &b.rows, &mut self.out.nodes, &mut self.out.rows);
+        let counts = self.counts.as_mut_ptr();
+        unsafe {
+            bindings::noddrefyr_pad(
+                bn.as_ptr(), bn.len(), br.as_ptr(), br.len(), added.as_ptr(), added.len(), length as u64,
+                pad.id, pad.type_id, pad.text_start, pad.text_length, pad.left, n.as_mut_ptr(), n.len(), r.as_mut_ptr(), r.len(), counts,
+            )
+        }
+    }
+
+    pub fn pad_encodings(&mut self, b: &Batch, lengths: Lengths, pad: Pad, added: &[u8]) -> u32 {
+        let (bn, br, n, r) = (&b.nodes, &b.rows, &mut self.out.nodes, &mut self.out.rows);
+        let counts = self.counts.as_mut_ptr();
+        unsafe {
+            bindings::noddrefyr_pad_encodings(
+                bn.as_ptr(), bn.len(), br.as_ptr(), br.len(), added.as_ptr(), added.len(), lengths.fixed, lengths.length as u64, lengths.multiple as u64,
+                pad.id, pad.type_id, pad.text_start, pad.text_length, pad.left, n.as_mut_ptr(), n.len(), r.as_mut_ptr(), r.len(), counts,
+            )
+        }
+    }
+
     pub fn set_sequence_id(&mut self, b: &Batch, id: u32) -> u32 {
         let (bn, br, n, r) = (&b.nodes, &b.rows, &mut self.out.nodes, &mut self.out.rows);
         let counts = self.counts.as_mut_ptr();
@@ -63,6 +118,55 @@ impl Lent {
 
 pub fn truncate(b: &Batch, max: u32, stride: u32, left: bool, nodes: usize, rows: usize) -> Output {
     Lent::new(nodes, rows).told(|lent| lent.truncate(b, max, stride, left))
+}
+
+pub fn truncate_encodings(b: &Batch, max_length: u32, stride: u32, strategy: u32, left: bool, nodes: usize, rows: usize) -> Output {
+    Lent::new(nodes, rows).told(|lent| lent.truncate_encodings(b, max_length, stride, strategy, left))
+}
+
+/// What is added in padding, and on which side.
+#[derive(Clone, Copy, Debug)]
+pub struct Pad {
+    pub id: u32,
+    pub type_id: u32,
+    pub text_start: u32,
+    pub text_length: u32,
+    pub left: bool,
+}
+
+/// How long the encodings of a batch become.
+#[derive(Clone, Copy, Debug)]
+pub struct Lengths {
+    pub fixed: bool,
+    pub length: u32,
+    pub multiple: u32,
+}
+
+/// With an added pool of so many bytes.
+pub fn pad(b: &Batch, length: u32, pad: Pad, pool: usize, nodes: usize, rows: usize) -> Output {
+    Lent::new(nodes, rows).told(|lent| lent.pad(b, length, pad, &vec![0; pool]))
+}
+
+pub fn pad_encodings(b: &Batch, lengths: Lengths, pad: Pad, pool: usize, nodes: usize, rows: usize) -> Output {
+    Lent::new(nodes, rows).told(|lent| lent.pad_encodings(b, lengths, pad, &vec![0; pool]))
+}
+
+pub fn merge_with(a: &Batch, b: &Batch, growing: bool, nodes: usize, rows: usize) -> Output {
+    Lent::new(nodes, rows).told(|lent| lent.merge_with(a, b, growing))
+}
+
+/// What an operation with a working store leaves in both.
+#[derive(Clone, PartialEq, Eq, Debug)]
+pub struct Folded {
+    pub output: Output,
+    pub working: Batch,
+}
+
+/// The fold, in an output and a working store of so many numbers.
+pub fn merge(b: &Batch, growing: bool, sizes: [usize; 4]) -> Folded {
+    let mut working = Batch { nodes: vec![BEFORE; sizes[2]], rows: vec![BEFORE; sizes[3]] };
+    let output = Lent::new(sizes[0], sizes[1]).told(|lent| lent.merge(b, growing, &mut working));
+    Folded { output, working }
 }
 
 pub fn from_tokens(tokens: &[u32], type_id: u32, nodes: usize, rows: usize) -> Output {

@@ -1,7 +1,7 @@
 //! get_sequence_ids against the Rust's: the mark and the id of each row, in an output that is long enough or not.
 use crate::lookups::{bench_batch, one};
 use crate::ours::{self, BEFORE};
-use crate::tally::{Line, Stored, Tally};
+use crate::tally::{Line, Stored, Tally, LENT};
 use crate::{bench, inputs, Operation};
 use std::hint::black_box;
 use tokenizers::bridge::Batch;
@@ -10,7 +10,7 @@ use tokenizers::Encoding;
 
 pub const OPERATION: Operation = Operation {
     name: "get_sequence_ids",
-    format: "5 nodes rows output-length refusal output (all of it, as it is after the call; 7 in each number before it)",
+    format: "5 nodes rows refusal rows 7 output nothing (of the two counts and the two lists of an operation that writes it has one)",
     compare,
     store,
     bench: times,
@@ -35,8 +35,8 @@ fn expected(b: &Batch, length: usize, before: u32) -> (u32, usize, Vec<u32>) {
 }
 
 fn line(b: &Batch, length: usize) -> Line {
-    let (refusal, _, out) = expected(b, length, 7);
-    Line::of(5).list(&b.nodes).list(&b.rows).number(length as u32).number(refusal).list(&out)
+    let (refusal, rows, out) = expected(b, length, LENT);
+    Line::of(5).list(&b.nodes).list(&b.rows).answer(refusal, &[rows as u32, LENT]).list(&out).list(&[])
 }
 
 fn case(t: &mut Tally, b: &Batch) {

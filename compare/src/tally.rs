@@ -1,30 +1,79 @@
 //! Counting cases and keeping the first difference; the stored form of a case.
 use std::fmt;
+use std::ops::Range;
+
+/// What each lent number of a stored case holds before the call, and after it where it is left alone.
+pub const LENT: u32 = 7;
 
 /// A case as one line of decimal numbers: the operation, its inputs and the expected answers, a list as its length
 /// and then its numbers.
-pub struct Line(Vec<u32>);
+#[derive(Clone)]
+pub struct Line {
+    numbers: Vec<u32>,
+    /// the places of the refusal and the lent numbers after it; a list may follow
+    answer: Range<usize>,
+    /// the place of the last number that is no list's length
+    last: usize,
+}
 
 impl Line {
     pub fn of(operation: u32) -> Line {
-        Line(vec![operation])
+        Line { numbers: vec![operation], answer: 0..0, last: 0 }
     }
 
     pub fn list(mut self, numbers: &[u32]) -> Line {
-        self.0.push(numbers.len() as u32);
-        self.0.extend(numbers);
-        self
+        self.numbers.push(numbers.len() as u32);
+        numbers.iter().fold(self, |line, x| line.number(*x))
     }
 
     pub fn number(mut self, number: u32) -> Line {
-        self.0.push(number);
+        self.last = self.numbers.len();
+        self.numbers.push(number);
         self
+    }
+
+    /// A refusal and the lent numbers, which it leaves alone.
+    pub fn answer(self, refusal: u32, values: &[u32]) -> Line {
+        let start = self.numbers.len();
+        let mut line = values.iter().fold(self.number(refusal), |line, x| line.number(if refusal == 0 { *x } else { LENT }));
+        line.answer = start..line.numbers.len();
+        line
+    }
+
+    /// A list that is all the answer, with no refusal.
+    pub fn answer_list(self, numbers: &[u32]) -> Line {
+        let start = self.numbers.len();
+        let mut line = self.list(numbers);
+        line.answer = start..start;
+        line
+    }
+
+    /// How many numbers other than 0 its answers have, none where it is refused.
+    fn told(&self) -> usize {
+        let refused = !self.answer.is_empty() && self.numbers[self.answer.start] != 0;
+        if refused { 0 } else { self.numbers[self.answer.start..].iter().filter(|x| **x != 0).count() }
+    }
+
+    /// Lines made of this one that the replay program must find, each with what is wrong with it and what is said of it.
+    fn wrong(&self) -> Vec<(String, Line, &'static str)> {
+        let changed = |at: usize| {
+            let mut line = self.clone();
+            line.numbers[at] = line.numbers[at].wrapping_add(1);
+            line
+        };
+        let mut short = self.clone();
+        short.numbers.pop();
+        let answers = self.answer.clone().chain((!self.answer.contains(&self.last)).then_some(self.last));
+        let mut all: Vec<_> = answers.map(|at| (format!("another number at place {at}"), changed(at), "differs")).collect();
+        all.push(("one number fewer".to_string(), short, "bad"));
+        all.push(("one number more".to_string(), self.clone().number(0), "bad"));
+        all
     }
 }
 
 impl fmt::Display for Line {
     fn fmt(&self, f: &mut fmt::Formatter<'_>) -> fmt::Result {
-        let words: Vec<String> = self.0.iter().map(u32::to_string).collect();
+        let words: Vec<String> = self.numbers.iter().map(u32::to_string).collect();
         f.write_str(&words.join(" "))
     }
 }
@@ -33,6 +82,11 @@ impl fmt::Display for Line {
 pub struct Stored {
     pub what: String,
     pub line: Line,
+}
+
+/// The wrong lines made of that one of the cases which tells most.
+pub fn wrong(cases: &[Stored]) -> Vec<(String, Line, &'static str)> {
+    cases.iter().map(|stored| &stored.line).max_by_key(|line| line.told()).expect("a stored case").wrong()
 }
 
 #[derive(Default)]

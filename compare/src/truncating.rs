@@ -1,18 +1,18 @@
 //! truncate against the Rust's: every small cut, and the limits of a result.
 use crate::inputs::{self, exact};
 use crate::lookups::one;
-use crate::making::{output, outputs};
 use crate::ours::{self, Lent, Output, BEFORE};
-use crate::tally::{Line, Stored, Tally};
+use crate::outputs::{output, outputs_around, stored};
+use crate::tally::{Line, Stored, Tally, LENT};
 use crate::{bench, Operation};
 use std::hint::black_box;
-use tokenizers::bridge::{from_batch, node_count, row_count, Batch, MAX_NODES, MAX_ROWS, NODE, ROW};
+use tokenizers::bridge::{from_batch, Batch, MAX_NODES, MAX_ROWS, NODE, ROW};
 use tokenizers::rng::Rng;
 use tokenizers::{Encoding, TruncationDirection};
 
 pub const OPERATION: Operation = Operation {
     name: "truncate",
-    format: "16 nodes rows max stride left node-numbers row-numbers refusal nodes rows (the output after the call; 7 in each number before it)",
+    format: "16 nodes rows max stride left refusal nodes rows out-nodes out-rows",
     compare,
     store,
     bench: times,
@@ -41,20 +41,22 @@ fn result(b: &Batch, cut: Cut) -> Result<Encoding, u32> {
     Ok(truncated(e, cut))
 }
 
+fn encodings(result: &Result<Encoding, u32>) -> Result<&[Encoding], u32> {
+    result.as_ref().map(std::slice::from_ref).map_err(|k| *k)
+}
+
 fn expected(result: &Result<Encoding, u32>, nodes: usize, rows: usize, before: u32) -> Output {
-    output(result.as_ref().map_err(|k| *k), nodes, rows, before)
+    output(encodings(result), nodes, rows, before)
 }
 
 fn line(b: &Batch, cut: Cut, want: Output) -> Line {
     let line = Line::of(16).list(&b.nodes).list(&b.rows).number(cut.max).number(cut.stride).number(cut.left as u32);
-    let line = line.number(want.out.nodes.len() as u32).number(want.out.rows.len() as u32).number(want.refusal);
-    line.list(&want.out.nodes).list(&want.out.rows)
+    stored(line, &want)
 }
 
 fn case(t: &mut Tally, b: &Batch, cut: Cut) {
     let result = result(b, cut);
-    let (nodes, rows) = result.as_ref().map_or((1, 1), |e| (node_count(e), row_count(e)));
-    for (nodes, rows) in outputs(nodes.min(MAX_NODES + 1) * NODE, rows.min(MAX_ROWS + 1) * ROW) {
+    for (nodes, rows) in outputs_around(encodings(&result)) {
         let got = ours::truncate(b, cut.max, cut.stride, cut.left, nodes, rows);
         let want = expected(&result, nodes, rows, BEFORE);
         t.case(got == want, || (format!("ours gave refusal {}", got.refusal), line(b, cut, want)));
@@ -94,10 +96,9 @@ fn store(r: &mut Rng) -> Vec<Stored> {
         let b = inputs::random_one(r, 3 * i as u64 + 1);
         let cut = Cut { max: i % 5, stride: r.small(3), left: i % 2 == 1 };
         let result = result(&b, cut);
-        let (nodes, rows) = result.as_ref().map_or((1, 1), |e| (node_count(e), row_count(e)));
-        let (nodes, rows) = outputs(nodes * NODE, rows * ROW)[i as usize % 4];
+        let (nodes, rows) = outputs_around(encodings(&result))[i as usize % 4];
         let what = format!("max {}, stride {}, {}", cut.max, cut.stride, if cut.left { "left" } else { "right" });
-        out.push(Stored { what, line: line(&b, cut, expected(&result, nodes, rows, 7)) });
+        out.push(Stored { what, line: line(&b, cut, expected(&result, nodes, rows, LENT)) });
     }
     out
 }

@@ -1,6 +1,6 @@
 -- Numbers put at the start of a list one by one, and those of a list within a case. Assumes nothing.
 use Prim.Native.Nat.{ℕ, _+_, _-_, _≤_, _<_}
-use mathlib.Core.Path.{_≡_, refl, _∙_}
+use mathlib.Core.Path.{_≡_, refl, sym, _∙_}
 use mathlib.Core.Logic.{inl, inr}
 use mathlib.Core.Bool.{Bool, true, false}
 use mathlib.Core.List.{List}
@@ -32,7 +32,7 @@ held case stored at r true p e put =
       found = inl (p .exact);
       ordered = p .ordered;
       inside = p .inside;
-      held = rw size at (put .0);
+      held = record { inside = rw size at (put .0); whole = sym (length-take-le _ _ (rw size at (put .0))) };
       put = rw size at (put .1);
     }
 held case stored at r false p e put = absurd (let z : _≡_ {A = ℕ} 0 1 = cc in omega arith)
@@ -40,4 +40,10 @@ held case stored at r false p e put = absurd (let z : _≡_ {A = ℕ} 0 1 = cc i
 pub none-held : (case stored : List ℕ) (at : ℕ) → BytesAt case at (noList (length case)) stored
 none-held case stored at =
     let none : length case - length case ≡ 0 = omega arith in
-    record { found = inr refl; ordered = omega arith; inside = omega arith; held = omega arith; put = rw none }
+    record {
+      found = inr refl;
+      ordered = omega arith;
+      inside = omega arith;
+      held = record { inside = omega arith; whole = rw none };
+      put = rw none;
+    }

@@ -1,12 +1,13 @@
--- The list at a place of a case, by the tests that find it, and whether it ends the case. Assumes nothing.
-use Prim.Native.Nat.{ℕ, _+_, _-_, _≤_, _<_}
-use mathlib.Core.Path.{refl}
+-- The list at a place of a case, by the tests that find it, whether it ends the case, and its length. Assumes nothing.
+use Prim.Native.Nat.{ℕ, _+_, _-_, _≤_, _<_, min}
+use mathlib.Core.Path.{_≡_, refl, sym}
 use mathlib.Core.Bool.{true}
 use mathlib.Core.List.{List}
 use lib.ListN.{length, getD}
+use lib.Seq.{length-take-le}
 use borrow.Author.Tests.{lt-ltb, le-ltb, le-leb, lt-leb}
 use native.Mathlib.Omega.{arith}
-use Rattle.cases.specs.Case.{PartAt, LastAt, partAt, noList}
+use Rattle.cases.specs.Case.{PartAt, LastAt, LengthAt, partAt, noList}
 use Rattle.cases.specs.declared.Part.{Part}
 
 module _ (case : List ℕ) (at : ℕ) where
@@ -46,3 +47,8 @@ module _ (case : List ℕ) (at : ℕ) where
         ordered = p .ordered;
         ends = omega (arith, p .inside);
       }
+
+  -- a length that is at most as much as was lent
+  pub length-held : (lent : List ℕ) (r : ℕ) → r ≡ min (getD case at 0) (length lent) → LengthAt case at lent r
+  length-held lent r e =
+      record { exact = e; held = record { inside = omega arith; whole = sym (length-take-le r lent (omega arith)) } }

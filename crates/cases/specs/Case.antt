@@ -1,6 +1,6 @@
 -- What a stored case is: "decimal u32 numbers separated by single spaces", "each list as its length then its numbers".
 -- Assumes nothing.
-use Prim.Native.Nat.{ℕ, zero, suc, _+_, _-_, _≤_, _<_}
+use Prim.Native.Nat.{ℕ, zero, suc, _+_, _-_, _≤_, _<_, min}
 use mathlib.Core.Path.{_≡_}
 use mathlib.Core.Logic.{_⊎_}
 use mathlib.Core.Bool.{Bool, true, false}
@@ -104,6 +104,16 @@ pub record LastAt (case : List ℕ) (at : ℕ) (r : Part) : Type 0 where
   pub ordered : r .start ≤ r .end
   pub ends : r .end ≡ length case
 
+-- So many numbers lie within what was lent. `whole` follows, and is stated so that they can be lent with no proof.
+pub record Within (n : ℕ) (lent : List ℕ) : Type 0 where
+  pub inside : n ≤ length lent
+  pub whole : n ≡ length (take n lent)
+
+-- What reading a length promises: the number at a place, at most as much as was lent.
+pub record LengthAt (case : List ℕ) (at : ℕ) (lent : List ℕ) (r : ℕ) : Type 0 where
+  pub exact : r ≡ min (getD case at 0) (length lent)
+  pub held : Within r lent
+
 -- a test that says exactly whether something holds
 abbrev pub Decides : Bool → Type 0 → Type 0
 Decides true P = P
@@ -114,13 +124,13 @@ abbrev pub PutBytes : Bool → List ℕ → List ℕ → Type 0
 PutBytes true list stored = (length list ≤ length stored) × (take (length list) stored ≡ list)
 PutBytes false list stored = length list ≤ length stored → ((i : ℕ) → i < length list → getD list i 0 < 256) → ⊥
 
--- What putting the list at a place into bytes promises: its numbers stand at the start, unless it gives none. `ordered`,
--- `inside` and `held` are stated so that the list and its bytes can be lent.
+-- What putting the list at a place into bytes promises: its numbers stand at the start, unless it gives none. `ordered`
+-- and `inside` are stated so that the list can be lent.
 pub record BytesAt (case : List ℕ) (at : ℕ) (r : Part) (stored : List ℕ) : Type 0 where
   pub found : (r ≡ partAt case at) ⊎ (r ≡ noList (length case))
   pub ordered : r .start ≤ r .end
   pub inside : r .end ≤ length case
-  pub held : r .end - r .start ≤ length stored
+  pub held : Within (r .end - r .start) stored
   pub put : take (r .end - r .start) stored ≡ take (r .end - r .start) (drop (r .start) case)
 
 -- the outcome of a case whose answers are the same, or not

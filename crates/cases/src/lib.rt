@@ -2,10 +2,9 @@
 //
 // A line is decimal numbers with single spaces between them. A list within a case is its length, then its numbers.
 ghost use mathlib.Core.Path.{_≡_};
-ghost use Prim.Native.Nat.{min};
 ghost use mathlib.Core.List.{_∷_};
 ghost use lib.ListN.{length, getD, take};
-ghost use Rattle.cases.specs.Case.{Gathered, PartAt, LastAt, Decides, PutBytes, BytesAt, noList, Told, comparison};
+ghost use Rattle.cases.specs.Case.{Gathered, PartAt, LastAt, LengthAt, Decides, PutBytes, BytesAt, noList, Told, comparison};
 use lines::Number;
 
 const SPACE: u8 = b' ';
@@ -114,11 +113,12 @@ pub fn number_at(case: &[u32], at: usize) -> u32
     if at < case.len() { case[at] } else { 0 }
 }
 
-// The number at a place of a case as a length, at most so much.
-pub fn length_at(case: &[u32], at: usize, most: usize) -> usize
-    ensures { λ r. ⌜ r ≡ min (getD (now (case .entry)) at 0) most ⌝ }
+// The number at a place of a case as a length, at most as much as is lent.
+pub fn length_at(case: &[u32], at: usize, lent: &[u32]) -> usize
+    ensures { λ r. ⌜ LengthAt (now (case .entry)) at (now (lent .entry)) r ⌝ }
 {
     let length = wide(number_at(case, at));
+    let most = lent.len();
     if length < most { length } else { most }
 }
 
@@ -248,4 +248,29 @@ pub fn answered(refusal: u32, lent: &[u32], case: &[u32], at: usize) -> Outcome
         return Outcome::Differs;
     }
     compared(equal(lent, &case[start..]))
+}
+
+// The same of so many lent numbers: an array can be lent whole with no proof of its length.
+pub fn answered_one(refusal: u32, lent: &[u32; 1], case: &[u32], at: usize) -> Outcome
+    ensures { λ r. ⌜ Told r (refusal ∷ now (lent .entry)) (now (case .entry)) at ⌝ }
+{
+    answered(refusal, lent, case, at)
+}
+
+pub fn answered_two(refusal: u32, lent: &[u32; 2], case: &[u32], at: usize) -> Outcome
+    ensures { λ r. ⌜ Told r (refusal ∷ now (lent .entry)) (now (case .entry)) at ⌝ }
+{
+    answered(refusal, lent, case, at)
+}
+
+pub fn answered_three(refusal: u32, lent: &[u32; 3], case: &[u32], at: usize) -> Outcome
+    ensures { λ r. ⌜ Told r (refusal ∷ now (lent .entry)) (now (case .entry)) at ⌝ }
+{
+    answered(refusal, lent, case, at)
+}
+
+pub fn answered_four(refusal: u32, lent: &[u32; 4], case: &[u32], at: usize) -> Outcome
+    ensures { λ r. ⌜ Told r (refusal ∷ now (lent .entry)) (now (case .entry)) at ⌝ }
+{
+    answered(refusal, lent, case, at)
 }

@@ -1,9 +1,25 @@
-// The operations that can be replayed, each called through the C interface. To add one: a number, a function that splits a
-// case into its inputs and expected answers, and an arm of `replay`.
+// One stored case, replayed. A case begins with its operation's number and two lists: the nodes and the rows of a batch, or
+// the tokens and nothing. The operations are in three crates by what they give: `replay_lookups` a few numbers,
+// `replay_texts` a text, `replay_writing` an output, which is compared here.
+//
+// To add an operation: its function in one of the three, as is said there; its number in `replay_batch`, unless it is a
+// lookup; and its cases, which the comparison with the Rust makes.
 ghost use mathlib.Core.Path.{_≡_};
 ghost use mathlib.Core.Bool.{true};
 ghost use Rattle.operations.specs.Comments.{skips};
 use cases::Outcome;
+use replay_texts::SPAN;
+use replay_texts::TEXT;
+use replay_texts::TEXT_PART;
+use replay_writing::FROM_TOKENS;
+use replay_writing::GET_SEQUENCE_IDS;
+use replay_writing::MERGE;
+use replay_writing::MERGE_WITH;
+use replay_writing::PAD;
+use replay_writing::PAD_ENCODINGS;
+use replay_writing::SET_SEQUENCE_ID;
+use replay_writing::TRUNCATE;
+use replay_writing::TRUNCATE_ENCODINGS;
 
 const COMMENT: u8 = b'#';
 
@@ -12,44 +28,10 @@ const NUMBERS: usize = 8192;
 
 const OUTPUT: usize = 2048;
 
-// What stands in each number of an output before the call.
+// What stands in each number that is lent before a call.
 const BEFORE: u32 = 7;
 
-// The most bytes of a pool.
-const POOL: usize = 64;
-
-// Operation numbers, the first number of each case.
-const CHECK_BATCH: u32 = 1;
-
-const SEQUENCE_RANGE: u32 = 2;
-
-const N_SEQUENCES: u32 = 3;
-
-const TOKEN_TO_SEQUENCE: u32 = 4;
-
-const GET_SEQUENCE_IDS: u32 = 5;
-
-const WORD_TO_TOKENS: u32 = 6;
-
-const WORD_TO_CHARS: u32 = 7;
-
-const CHAR_TO_TOKEN: u32 = 8;
-
-const TOKEN_TO_CHARS: u32 = 9;
-
-const TOKEN_TO_WORD: u32 = 10;
-
-const CHAR_TO_WORD: u32 = 11;
-
-const FROM_TOKENS: u32 = 12;
-
-const SET_SEQUENCE_ID: u32 = 13;
-
-const TEXT: u32 = 14;
-
-const SPAN: u32 = 15;
-
-const TRUNCATE: u32 = 16;
+const BEFORE_COUNT: usize = 7;
 
 // Runs the case that a line holds. A line that starts with `#` is a comment, and an empty line is skipped.
 pub fn replay_line(line: &[u8]) -> Outcome
@@ -70,15 +52,7 @@ pub fn replay_line(line: &[u8]) -> Outcome
     replay(&numbers[..count])
 }
 
-// A case begins with its operation and, but for `from_tokens`, a batch.
 fn replay(case: &[u32]) -> Outcome {
-    if case.len() == 0 {
-        return Outcome::Bad;
-    }
-    let operation = case[0];
-    if operation == FROM_TOKENS {
-        return replay_from_tokens(case);
-    }
     let nodes = cases::list_at(case, 1);
     let nodes_start = nodes.start;
     let nodes_end = nodes.end;
@@ -89,382 +63,112 @@ fn replay(case: &[u32]) -> Outcome {
     let rows_start = rows.start;
     let rows_end = rows.end;
     replay_batch(
-        operation,
+        cases::number_at(case, 0),
         &case[nodes_start..nodes_end],
         &case[rows_start..rows_end],
         &case[rows_end..],
     )
 }
 
-// The operations on a batch; `rest` is what follows it in the case.
+// `rest` is what follows the two lists in the case.
 fn replay_batch(operation: u32, nodes: &[u32], rows: &[u32], rest: &[u32]) -> Outcome {
     match operation {
-        CHECK_BATCH => replay_check_batch(nodes, rows, rest),
-        SEQUENCE_RANGE => replay_sequence_range(nodes, rows, rest),
-        N_SEQUENCES => replay_n_sequences(nodes, rows, rest),
-        TOKEN_TO_SEQUENCE => replay_token_to_sequence(nodes, rows, rest),
-        GET_SEQUENCE_IDS => replay_get_sequence_ids(nodes, rows, rest),
-        SET_SEQUENCE_ID => replay_set_sequence_id(nodes, rows, rest),
-        TEXT => replay_text(nodes, rows, rest),
-        SPAN => replay_span(nodes, rows, rest),
-        TRUNCATE => replay_truncate(nodes, rows, rest),
-        _ => replay_lookup(operation, nodes, rows, rest),
+        TEXT | SPAN | TEXT_PART => replay_texts::replay(operation, nodes, rows, rest),
+        GET_SEQUENCE_IDS
+        | FROM_TOKENS
+        | SET_SEQUENCE_ID
+        | TRUNCATE
+        | MERGE_WITH
+        | MERGE
+        | TRUNCATE_ENCODINGS
+        | PAD
+        | PAD_ENCODINGS => { replay_writing(operation, nodes, rows, rest) }
+        _ => replay_lookups::replay(operation, nodes, rows, rest),
     }
 }
 
-fn replay_lookup(operation: u32, nodes: &[u32], rows: &[u32], rest: &[u32]) -> Outcome {
-    match operation {
-        WORD_TO_TOKENS => replay_word_to_tokens(nodes, rows, rest),
-        WORD_TO_CHARS => replay_word_to_chars(nodes, rows, rest),
-        CHAR_TO_TOKEN => replay_char_to_token(nodes, rows, rest),
-        TOKEN_TO_CHARS => replay_token_to_chars(nodes, rows, rest),
-        TOKEN_TO_WORD => replay_token_to_word(nodes, rows, rest),
-        CHAR_TO_WORD => replay_char_to_word(nodes, rows, rest),
-        _ => Outcome::Bad,
-    }
-}
-
-// Whether a refusal and the lent numbers, zeros before the call, are the stored ones.
-fn answered_two(refusal: u32, a: u32, b: u32, stored: &[u32]) -> Outcome {
-    if stored.len() != 3 {
+fn replay_writing(operation: u32, nodes: &[u32], rows: &[u32], rest: &[u32]) -> Outcome {
+    let at = replay_writing::answers_at(operation, rest);
+    if rest.len() < at {
         return Outcome::Bad;
     }
-    cases::compared(stored[0] == refusal && stored[1] == a && stored[2] == b)
-}
-
-fn answered_three(refusal: u32, a: u32, b: u32, c: u32, stored: &[u32]) -> Outcome {
-    if stored.len() != 4 {
-        return Outcome::Bad;
-    }
-    cases::compared(stored[0] == refusal && stored[1] == a && stored[2] == b && stored[3] == c)
-}
-
-fn answered_four(refusal: u32, answer: [u32; 4], stored: &[u32]) -> Outcome {
-    if stored.len() != 5 {
-        return Outcome::Bad;
-    }
-    if stored[1] != answer[0] {
-        return Outcome::Differs;
-    }
-    cases::compared(
-        stored[0] == refusal
-            && stored[2] == answer[1]
-            && stored[3] == answer[2]
-            && stored[4] == answer[3],
+    let mut out_nodes = [BEFORE; OUTPUT];
+    let mut out_rows = [BEFORE; OUTPUT];
+    written(
+        operation,
+        nodes,
+        rows,
+        rest,
+        &rest[at..],
+        &mut out_nodes,
+        &mut out_rows,
     )
 }
 
-// `1 nodes rows refusal encodings`
-fn replay_check_batch(nodes: &[u32], rows: &[u32], rest: &[u32]) -> Outcome {
-    if rest.len() != 2 {
-        return Outcome::Bad;
-    }
-    let mut encodings: usize = 0;
-    let refusal = exports::noddrefyr_check_batch(nodes, rows, &mut encodings);
-    cases::compared(refusal == rest[0] && encodings == cases::wide(rest[1]))
-}
-
-// `2 nodes rows sequence refusal start end`
-fn replay_sequence_range(nodes: &[u32], rows: &[u32], rest: &[u32]) -> Outcome {
-    if rest.len() != 4 {
-        return Outcome::Bad;
-    }
-    let mut answer = [0u32; 2];
-    let refusal = exports::noddrefyr_sequence_range(nodes, rows, rest[0], &mut answer);
-    answered_two(refusal, answer[0], answer[1], &rest[1..])
-}
-
-// `3 nodes rows refusal count`
-fn replay_n_sequences(nodes: &[u32], rows: &[u32], rest: &[u32]) -> Outcome {
-    if rest.len() != 2 {
-        return Outcome::Bad;
-    }
-    let mut answer = [0u32; 1];
-    let refusal = exports::noddrefyr_n_sequences(nodes, rows, &mut answer);
-    cases::compared(rest[0] == refusal && rest[1] == answer[0])
-}
-
-// `4 nodes rows token refusal found sequence`
-fn replay_token_to_sequence(nodes: &[u32], rows: &[u32], rest: &[u32]) -> Outcome {
-    if rest.len() != 4 {
-        return Outcome::Bad;
-    }
-    let mut answer = [0u32; 2];
-    let refusal = exports::noddrefyr_token_to_sequence(nodes, rows, rest[0], &mut answer);
-    answered_two(refusal, answer[0], answer[1], &rest[1..])
-}
-
-// `5 nodes rows output-length refusal output`
-fn replay_get_sequence_ids(nodes: &[u32], rows: &[u32], rest: &[u32]) -> Outcome {
-    let mut out = [BEFORE; OUTPUT];
-    column(nodes, rows, rest, &mut out)
-}
-
-fn column(nodes: &[u32], rows: &[u32], rest: &[u32], out: &mut [u32]) -> Outcome {
-    if rest.len() < 3 {
-        return Outcome::Bad;
-    }
-    let length = cases::wide(rest[0]);
-    if length > out.len() {
-        return Outcome::Bad;
-    }
-    let stored = cases::list_at(rest, 2);
-    let start = stored.start;
-    let end = stored.end;
-    let mut written = [0usize; 1];
-    let refusal = exports::noddrefyr_get_sequence_ids(
+// The answers of an operation that writes: its refusal, the counts of nodes and rows, and all that stands in its output
+// after the call, as two lists. So many numbers are lent as these have.
+fn written(
+    operation: u32,
+    nodes: &[u32],
+    rows: &[u32],
+    rest: &[u32],
+    answers: &[u32],
+    out_nodes: &mut [u32],
+    out_rows: &mut [u32],
+) -> Outcome {
+    let node_numbers = cases::length_at(answers, 3, out_nodes);
+    let stored_nodes = cases::list_at(answers, 3);
+    let row_numbers = cases::length_at(answers, stored_nodes.end, out_rows);
+    let mut counts = [BEFORE_COUNT; 2];
+    let refusal = replay_writing::write(
+        operation,
         nodes,
         rows,
-        &mut out[..length],
-        &mut written,
+        rest,
+        &mut out_nodes[..node_numbers],
+        &mut out_rows[..row_numbers],
+        &mut counts,
     );
-    if refusal != rest[1] {
+    answered(refusal, &counts, out_nodes, out_rows, answers)
+}
+
+// Whether the answers are the refusal, the counts and what was left in the output.
+fn answered(
+    refusal: u32,
+    counts: &[usize; 2],
+    nodes: &[u32],
+    rows: &[u32],
+    answers: &[u32],
+) -> Outcome {
+    if !told(refusal, counts, answers) {
         return Outcome::Differs;
     }
-    cases::compared(cases::equal(&out[..length], &rest[start..end]))
+    left(nodes, rows, answers)
 }
 
-// `6 nodes rows word sequence refusal found start end`
-fn replay_word_to_tokens(nodes: &[u32], rows: &[u32], rest: &[u32]) -> Outcome {
-    if rest.len() != 6 {
-        return Outcome::Bad;
+// Whether the answers begin with the refusal and the counts.
+fn told(refusal: u32, counts: &[usize; 2], answers: &[u32]) -> bool {
+    if cases::number_at(answers, 0) != refusal {
+        return false;
     }
-    let mut answer = [0u32; 3];
-    let refusal = exports::noddrefyr_word_to_tokens(nodes, rows, rest[0], rest[1], &mut answer);
-    answered_three(refusal, answer[0], answer[1], answer[2], &rest[2..])
-}
-
-// `7 nodes rows word sequence refusal found start end`
-fn replay_word_to_chars(nodes: &[u32], rows: &[u32], rest: &[u32]) -> Outcome {
-    if rest.len() != 6 {
-        return Outcome::Bad;
+    if cases::wide(cases::number_at(answers, 1)) != counts[0] {
+        return false;
     }
-    let mut answer = [0u32; 3];
-    let refusal = exports::noddrefyr_word_to_chars(nodes, rows, rest[0], rest[1], &mut answer);
-    answered_three(refusal, answer[0], answer[1], answer[2], &rest[2..])
+    cases::wide(cases::number_at(answers, 2)) == counts[1]
 }
 
-// `8 nodes rows place sequence refusal found row`
-fn replay_char_to_token(nodes: &[u32], rows: &[u32], rest: &[u32]) -> Outcome {
-    if rest.len() != 5 {
-        return Outcome::Bad;
-    }
-    let mut answer = [0u32; 2];
-    let refusal = exports::noddrefyr_char_to_token(nodes, rows, rest[0], rest[1], &mut answer);
-    answered_two(refusal, answer[0], answer[1], &rest[2..])
-}
-
-// `9 nodes rows token refusal found sequence start end`
-fn replay_token_to_chars(nodes: &[u32], rows: &[u32], rest: &[u32]) -> Outcome {
-    if rest.len() != 6 {
-        return Outcome::Bad;
-    }
-    let mut answer = [0u32; 4];
-    let refusal = exports::noddrefyr_token_to_chars(nodes, rows, rest[0], &mut answer);
-    answered_four(refusal, answer, &rest[1..])
-}
-
-// `10 nodes rows token refusal found sequence word`
-fn replay_token_to_word(nodes: &[u32], rows: &[u32], rest: &[u32]) -> Outcome {
-    if rest.len() != 5 {
-        return Outcome::Bad;
-    }
-    let mut answer = [0u32; 3];
-    let refusal = exports::noddrefyr_token_to_word(nodes, rows, rest[0], &mut answer);
-    answered_three(refusal, answer[0], answer[1], answer[2], &rest[1..])
-}
-
-// `11 nodes rows place sequence refusal found word`
-fn replay_char_to_word(nodes: &[u32], rows: &[u32], rest: &[u32]) -> Outcome {
-    if rest.len() != 5 {
-        return Outcome::Bad;
-    }
-    let mut answer = [0u32; 2];
-    let refusal = exports::noddrefyr_char_to_word(nodes, rows, rest[0], rest[1], &mut answer);
-    answered_two(refusal, answer[0], answer[1], &rest[2..])
-}
-
-// What an operation that writes left in its output, and the stored lists, at a place of the case.
-fn left(nodes: &[u32], rows: &[u32], stored: &[u32], at: usize) -> Outcome {
-    let first = cases::list_at(stored, at);
+// Whether the two lists that end the answers are what was left in the output.
+fn left(nodes: &[u32], rows: &[u32], answers: &[u32]) -> Outcome {
+    let first = cases::list_at(answers, 3);
     let first_start = first.start;
     let first_end = first.end;
-    let second = cases::list_at(stored, first_end);
+    let second = cases::last_list(answers, first_end);
     if !second.fits {
         return Outcome::Bad;
     }
     let second_start = second.start;
-    if !cases::equal(nodes, &stored[first_start..first_end]) {
+    if !cases::begins(nodes, &answers[first_start..first_end]) {
         return Outcome::Differs;
     }
-    cases::compared(cases::equal(rows, &stored[second_start..]))
-}
-
-// `12 tokens type node-numbers row-numbers refusal nodes rows`
-fn replay_from_tokens(case: &[u32]) -> Outcome {
-    let mut out_nodes = [BEFORE; OUTPUT];
-    let mut out_rows = [BEFORE; OUTPUT];
-    made(case, &mut out_nodes, &mut out_rows)
-}
-
-fn made(case: &[u32], out_nodes: &mut [u32], out_rows: &mut [u32]) -> Outcome {
-    let tokens = cases::list_at(case, 1);
-    let start = tokens.start;
-    let end = tokens.end;
-    if case.len() - end < 4 {
-        return Outcome::Bad;
-    }
-    let nodes = cases::wide(case[end + 1]);
-    let rows = cases::wide(case[end + 2]);
-    if nodes > out_nodes.len() {
-        return Outcome::Bad;
-    }
-    if rows > out_rows.len() {
-        return Outcome::Bad;
-    }
-    let mut written = [0usize; 2];
-    let refusal = exports::noddrefyr_from_tokens(
-        &case[start..end],
-        case[end],
-        &mut out_nodes[..nodes],
-        &mut out_rows[..rows],
-        &mut written,
-    );
-    if refusal != case[end + 3] {
-        return Outcome::Differs;
-    }
-    left(&out_nodes[..nodes], &out_rows[..rows], case, end + 4)
-}
-
-// `13 nodes rows sequence node-numbers row-numbers refusal nodes rows`
-fn replay_set_sequence_id(nodes: &[u32], rows: &[u32], rest: &[u32]) -> Outcome {
-    let mut out_nodes = [BEFORE; OUTPUT];
-    let mut out_rows = [BEFORE; OUTPUT];
-    sequence_set(nodes, rows, rest, &mut out_nodes, &mut out_rows)
-}
-
-fn sequence_set(
-    nodes: &[u32],
-    rows: &[u32],
-    rest: &[u32],
-    out_nodes: &mut [u32],
-    out_rows: &mut [u32],
-) -> Outcome {
-    if rest.len() < 4 {
-        return Outcome::Bad;
-    }
-    let node_numbers = cases::wide(rest[1]);
-    let row_numbers = cases::wide(rest[2]);
-    if node_numbers > out_nodes.len() {
-        return Outcome::Bad;
-    }
-    if row_numbers > out_rows.len() {
-        return Outcome::Bad;
-    }
-    let mut written = [0usize; 2];
-    let refusal = exports::noddrefyr_set_sequence_id(
-        nodes,
-        rows,
-        rest[0],
-        &mut out_nodes[..node_numbers],
-        &mut out_rows[..row_numbers],
-        &mut written,
-    );
-    if refusal != rest[3] {
-        return Outcome::Differs;
-    }
-    left(
-        &out_nodes[..node_numbers],
-        &out_rows[..row_numbers],
-        rest,
-        4,
-    )
-}
-
-// `14 nodes rows row token-bytes added-bytes refusal found pool start length`, the pools as their lengths
-fn replay_text(nodes: &[u32], rows: &[u32], rest: &[u32]) -> Outcome {
-    let tokens = [0u8; POOL];
-    let added = [0u8; POOL];
-    text_found(nodes, rows, rest, &tokens, &added)
-}
-
-fn text_found(nodes: &[u32], rows: &[u32], rest: &[u32], tokens: &[u8], added: &[u8]) -> Outcome {
-    if rest.len() != 8 {
-        return Outcome::Bad;
-    }
-    let token_bytes = cases::wide(rest[1]);
-    let added_bytes = cases::wide(rest[2]);
-    if token_bytes > tokens.len() {
-        return Outcome::Bad;
-    }
-    if added_bytes > added.len() {
-        return Outcome::Bad;
-    }
-    let mut answer = [0u32; 4];
-    let refusal = exports::noddrefyr_text(
-        nodes,
-        rows,
-        rest[0],
-        &tokens[..token_bytes],
-        &added[..added_bytes],
-        &mut answer,
-    );
-    answered_four(refusal, answer, &rest[3..])
-}
-
-// `15 nodes rows node refusal found start end`
-fn replay_span(nodes: &[u32], rows: &[u32], rest: &[u32]) -> Outcome {
-    if rest.len() != 5 {
-        return Outcome::Bad;
-    }
-    let mut answer = [0u32; 3];
-    let refusal = exports::noddrefyr_span(nodes, rows, rest[0], &mut answer);
-    answered_three(refusal, answer[0], answer[1], answer[2], &rest[1..])
-}
-
-// `16 nodes rows max stride left node-numbers row-numbers refusal nodes rows`
-fn replay_truncate(nodes: &[u32], rows: &[u32], rest: &[u32]) -> Outcome {
-    let mut out_nodes = [BEFORE; OUTPUT];
-    let mut out_rows = [BEFORE; OUTPUT];
-    truncated(nodes, rows, rest, &mut out_nodes, &mut out_rows)
-}
-
-fn truncated(
-    nodes: &[u32],
-    rows: &[u32],
-    rest: &[u32],
-    out_nodes: &mut [u32],
-    out_rows: &mut [u32],
-) -> Outcome {
-    if rest.len() < 6 {
-        return Outcome::Bad;
-    }
-    let node_numbers = cases::wide(rest[3]);
-    let row_numbers = cases::wide(rest[4]);
-    if node_numbers > out_nodes.len() {
-        return Outcome::Bad;
-    }
-    if row_numbers > out_rows.len() {
-        return Outcome::Bad;
-    }
-    let mut written = [0usize; 2];
-    let refusal = exports::noddrefyr_truncate(
-        nodes,
-        rows,
-        rest[0],
-        rest[1],
-        rest[2] == 1,
-        &mut out_nodes[..node_numbers],
-        &mut out_rows[..row_numbers],
-        &mut written,
-    );
-    if refusal != rest[5] {
-        return Outcome::Differs;
-    }
-    left(
-        &out_nodes[..node_numbers],
-        &out_rows[..row_numbers],
-        rest,
-        6,
-    )
+    cases::compared(cases::begins(rows, &answers[second_start..]))
 }
