@@ -1,0 +1,4 @@
+pub mod Finding
+pub mod Split
+pub mod Parts
+mod Samples
