@@ -1,4 +1,4 @@
-mod Digits
+pub mod Digits
 mod Reading
 pub mod Moves
 mod Samples

@@ -30,7 +30,7 @@ tells-and {a} {b} {A} {B} s t = record { so = λ e. go a (s .so) e; back = λ (x
     go true f e = (f refl, t .so e)
     go false f e = absurd (false≢true e)
 
-tells-or : {a b : Bool} {A B : Type 0} → Tells a A → Tells b B → Tells (a || b) (A ⊎ B)
+pub tells-or : {a b : Bool} {A B : Type 0} → Tells a A → Tells b B → Tells (a || b) (A ⊎ B)
 tells-or {a} {b} {A} {B} s t = record { so = λ e. go a (s .so) e; back = forth a (s .back) }
   where
     go : (c : Bool) → (c ≡ true → A) → (c || b) ≡ true → A ⊎ B
@@ -42,7 +42,7 @@ tells-or {a} {b} {A} {B} s t = record { so = λ e. go a (s .so) e; back = forth 
     forth false f (inl x) = absurd (false≢true (f x))
     forth false f (inr y) = t .back y
 
-tells-as : {b : Bool} {P Q : Type 0} → (P → Q) → (Q → P) → Tells b P → Tells b Q
+pub tells-as : {b : Bool} {P Q : Type 0} → (P → Q) → (Q → P) → Tells b P → Tells b Q
 tells-as f h s = record { so = λ e. f (s .so e); back = λ q. s .back (h q) }
 
 pub tells-and₃ : {a b c : Bool} {A B C : Type 0} → Tells a A → Tells b B → Tells c C → Tells (a && (b && c)) (A × B × C)
@@ -57,7 +57,7 @@ tells-same {a} {b} s t = go a b (λ e. t .back (s .so e)) (λ e. s .back (t .so 
     go false true f h = h refl
     go false false f h = refl
 
-tells-all : {A : Type 0} (t : A → Bool) (M : A → Type 0) → ((a : A) → Tells (t a) (M a)) → (xs : List A) → Tells (allOk t xs) (All M xs)
+pub tells-all : {A : Type 0} (t : A → Bool) (M : A → Type 0) → ((a : A) → Tells (t a) (M a)) → (xs : List A) → Tells (allOk t xs) (All M xs)
 tells-all t M h [] = record { so = λ e. tt; back = λ u. refl }
 tells-all t M h (x ∷ xs) = tells-and (h x) (tells-all t M h xs)
 

@@ -1,0 +1,4 @@
+pub mod Number
+mod Digits
+mod Piece
+pub mod Lies
