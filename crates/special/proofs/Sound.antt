@@ -1,0 +1,143 @@
+-- A table that is not refused: what its numbers are, and the special id that the search for an entry finds.
+-- Assumes nothing.
+use mathlib.Core.Path.{_≡_, refl, ap, _∙_}
+use mathlib.Core.Bool.{Bool, true, false, cond}
+use mathlib.Core.Option.{Option, none as nothing, some}
+use Prim.Native.Nat.{ℕ, zero, suc, _+_, _*_, _/_, _%_, _≤_, _<_}
+use native.Mathlib.Omega.{arith}
+use mathlib.Core.List.{List, [], _∷_, map}
+use lib.ListN.{length, getD, drop, length-drop}
+use lib.Seq.{length-take-le}
+use Rattle.record.specs.Tree.{All}
+use Rattle.record.specs.Read.{allOk}
+use Rattle.record.specs.declared.Refusal.{Refusal}
+use Rattle.record.specs.declared.Refusal.the-variants.{IdsAndTextsDiffer, MalformedTable}
+use Rattle.record.proofs.WellFormed.{Tells, tells-le, tells-eq, tells-and, tells-all}
+use Rattle.sequences.specs.First.{lastFrom, orElse}
+use Rattle.sequences.proofs.First.{last-found}
+use Rattle.sequences.proofs.Ranges.{all-at}
+use Rattle.special.specs.Table.{Entry, Member, Special, entryWidth, memberWidth, noEntry, mostEntries, entriesIn, membersIn, entryOk, memberOk, wellMade, agrees, specialOf, Table, faulty, sound, readTable, tableAnswer, noSpecial, atPlace, hasId, lastWith, entryHasId, foundAnswer, IdsInside}
+use Rattle.special.specs.declared.TableAnswer.the-variants.{Refused, Sound}
+use Rattle.special.specs.declared.FoundEntry.the-variants.{Unknown, At}
+use Rattle.special.proofs.Entries.{entries-number, members-number, entry-is}
+
+-- ---- What is so of every table that is not refused
+
+abbrev EntryFits : ℕ → ℕ → Entry → Type 0
+EntryFits count pool e = (e .id-start + e .id-length ≤ pool) × (e .first + e .ids ≤ count)
+
+abbrev MemberFits : ℕ → Member → Type 0
+MemberFits pool m = m .text-start + m .text-length ≤ pool
+
+pub record TableHolds (entries members added : List ℕ) (table : List Special) : Type 0 where
+  pub few : length entries / entryWidth ≤ mostEntries
+  pub entries-fit : All (EntryFits (length members / memberWidth) (length added)) (entriesIn entries)
+  pub members-fit : All (MemberFits (length added)) (membersIn members)
+  pub table-is : table ≡ map (specialOf (membersIn members) added) (entriesIn entries)
+
+abbrev Made : List ℕ → List ℕ → ℕ → Type 0
+Made entries members pool =
+    (length entries % entryWidth ≡ 0)
+    × ((length members % memberWidth ≡ 0)
+    × ((length entries / entryWidth ≤ mostEntries) × (All (EntryFits (length members / memberWidth) pool) (entriesIn entries) × All (MemberFits pool) (membersIn members))))
+
+tells-made : (entries members : List ℕ) (pool : ℕ)
+    → Tells (wellMade entries members pool) (Made entries members pool)
+unfolding wellMade
+tells-made entries members pool =
+    tells-and (tells-eq (length entries % entryWidth) 0)
+    (tells-and (tells-eq (length members % memberWidth) 0)
+    (tells-and (tells-le (length entries / entryWidth) mostEntries)
+    (tells-and
+    (tells-all (entryOk (length members / memberWidth) pool) (EntryFits (length members / memberWidth) pool) (λ e. tells-and (tells-le (e .id-start + e .id-length) pool) (tells-le (e .first + e .ids) (length members / memberWidth))) (entriesIn entries))
+    (tells-all (memberOk pool) (MemberFits pool) (λ m. tells-le (m .text-start + m .text-length) pool) (membersIn members)))))
+
+module _ (entries members added : List ℕ) where
+  pub table-holds : {table : List Special} → readTable entries members added ≡ sound table → TableHolds entries members added table
+  unfolding readTable
+  table-holds {table} e = go (wellMade entries members (length added)) (tells-made entries members (length added) .so) (allOk agrees (entriesIn entries)) e
+    where
+      go : (made : Bool) → (made ≡ true → Made entries members (length added))
+          → (agree : Bool) → cond made (cond agree (sound (map (specialOf (membersIn members) added) (entriesIn entries))) (faulty IdsAndTextsDiffer)) (faulty MalformedTable) ≡ sound table → TableHolds entries members added table
+      go true told true e =
+          let is : table ≡ map (specialOf (membersIn members) added) (entriesIn entries) = cc in
+          let t = told refl in
+          record { few = t .1 .1 .0; entries-fit = t .1 .1 .1 .0; members-fit = t .1 .1 .1 .1; table-is = is }
+      go true told false e = let z : _≡_ {A = ℕ} 0 1 = cc in absurd (omega arith)
+      go false told agree e = let z : _≡_ {A = ℕ} 0 1 = cc in absurd (omega arith)
+
+-- ---- The answer
+
+pub answer-sound : (t : Table) → tableAnswer t ≡ Sound → (table : List Special) × (t ≡ sound table)
+unfolding tableAnswer
+answer-sound (faulty k) e = let z : _≡_ {A = ℕ} 0 1 = cc in absurd (omega arith)
+answer-sound (sound table) e = (table, refl)
+
+pub answer-refused : (t : Table) {why : Refusal} → tableAnswer t ≡ Refused why → t ≡ faulty why
+unfolding tableAnswer
+answer-refused (faulty k) e = cc
+answer-refused (sound table) e = cc
+
+-- ---- The entry that is found
+
+-- what is found in a list of images is found in the list
+last-map : {A : Type 0} {B : Type 0} (t : B → Bool) (f : A → B) (n : ℕ) (xs : List A) → lastFrom t n (map f xs) ≡ lastFrom (λ (x : A). t (f x)) n xs
+unfolding lastFrom
+last-map t f n [] = refl
+last-map t f n (x ∷ xs) = ap (λ (o : Option ℕ). orElse o (cond (t (f x)) (some n) nothing)) (last-map t f (suc n) xs)
+
+map-nth : {A : Type 0} {B : Type 0} (f : A → B) (xs : List A) (k : ℕ) (d : A) (e : B) → k < length xs → getD (map f xs) k e ≡ f (getD xs k d)
+map-nth f [] k d e h = absurd (omega arith)
+map-nth f (x ∷ xs) zero d e h = refl
+map-nth f (x ∷ xs) (suc k) d e h = map-nth f xs k d e (omega arith)
+
+found-place : (o : Option ℕ) {k : ℕ} → foundAnswer o ≡ At k → o ≡ some k
+unfolding foundAnswer
+found-place nothing e = cc
+found-place (some n) e = cc
+
+found-none : (o : Option ℕ) → foundAnswer o ≡ Unknown → o ≡ nothing
+unfolding foundAnswer
+found-none nothing e = refl
+found-none (some n) e = cc
+
+module _ {entries members added : List ℕ} {table : List Special} (h : TableHolds entries members added table) where
+  pub ids-inside : IdsInside entries added
+  ids-inside = record { inside = firsts (entriesIn entries) (h .entries-fit) }
+    where
+      firsts : (es : List Entry) → All (EntryFits (length members / memberWidth) (length added)) es → All (λ (e : Entry). e .id-start + e .id-length ≤ length added) es
+      firsts [] all = tt
+      firsts (e ∷ es) all = (all .0 .0, firsts es (all .1))
+
+  -- the search among the entries is the search among the special ids
+  search-is : (id : List ℕ) → lastFrom (hasId id) 0 table ≡ lastFrom (entryHasId added id) 0 (entriesIn entries)
+  search-is id = ap (lastFrom (hasId id) 0) (h .table-is) ∙ last-map (hasId id) (specialOf (membersIn members) added) 0 (entriesIn entries)
+
+  pub unknown-is : (id : List ℕ) → foundAnswer (lastFrom (entryHasId added id) 0 (entriesIn entries)) ≡ Unknown → lastWith id table ≡ nothing
+  unfolding lastWith
+  unknown-is id e = ap (atPlace table) (search-is id ∙ found-none (lastFrom (entryHasId added id) 0 (entriesIn entries)) e)
+
+  -- the special id of the entry at a place
+  abbrev pub specialAt : ℕ → Special
+  specialAt k = specialOf (membersIn members) added (getD (entriesIn entries) k noEntry)
+
+  module _ (id : List ℕ) {k : ℕ} (e : foundAnswer (lastFrom (entryHasId added id) 0 (entriesIn entries)) ≡ At k) where
+    place : lastFrom (entryHasId added id) 0 (entriesIn entries) ≡ some k
+    place = found-place (lastFrom (entryHasId added id) 0 (entriesIn entries)) e
+
+    pub found-among : k < length entries / entryWidth
+    found-among = omega (arith, last-found (entryHasId added id) noEntry 0 (entriesIn entries) k place .inside, entries-number entries)
+
+    pub found-is : lastWith id table ≡ some (specialAt k)
+    unfolding lastWith
+    found-is =
+        ap (atPlace table) (search-is id ∙ place)
+        ∙ ap some (ap (λ (l : List Special). getD l k noSpecial) (h .table-is) ∙ map-nth (specialOf (membersIn members) added) (entriesIn entries) k noEntry noSpecial (omega (arith, found-among, entries-number entries)))
+
+  -- an entry has as many members as it has ids
+  pub ids-number : {k : ℕ} → k < length entries / entryWidth → length (specialAt k .members) ≡ getD entries (k * entryWidth + 3) 0
+  ids-number {k} among =
+      let fits = all-at (EntryFits (length members / memberWidth) (length added)) (entriesIn entries) k noEntry (omega (arith, entries-number entries)) (h .entries-fit) in
+      let e = getD (entriesIn entries) k noEntry in
+      length-take-le (e .ids) (drop (e .first) (membersIn members)) (omega (arith, fits .1, length-drop (e .first) (membersIn members), members-number members))
+      ∙ ap (λ (entry : Entry). entry .ids) (entry-is entries k among)
