@@ -305,9 +305,11 @@ fn with_windows(rows: u32, windows: u32) -> Batch {
     exact(&[vec![(rows, windows)], vec![(rows, 0); windows as usize]].concat())
 }
 
-/// The Rust's time alone, one call to a clock reading, and a plain copy of the result's rows.
-fn row(what: &str, ours: f64, rust: f64, rows: usize) {
-    bench::row(what, ours, "Rust", rust, "");
+/// The Rust's time alone, one call to a clock reading; with a copy of its operands, which it takes and ours leaves alone;
+/// and a plain copy of the result's rows.
+fn row(what: &str, ours: f64, rust: f64, kept: f64, rows: usize) {
+    bench::row(what, ours, "Rust", rust, "which moves its operands' rows");
+    bench::row(what, ours, "Rust", kept, "with a copy of its operands");
     let (from, mut to) = (vec![1u32; rows * ROW], vec![0u32; rows * ROW]);
     let copy = bench::alone(|| to.copy_from_slice(black_box(&from)));
     bench::row(what, ours, "memory copy", copy, "of the result");
@@ -322,11 +324,13 @@ fn time_joins() {
         let size = to_batch(&[result]).unwrap();
         let mut lent = Lent::new(size.nodes.len(), size.rows.len());
         let ours = bench::alone(|| assert_eq!(lent.merge_with(black_box(&b), black_box(&b), true), 0));
-        let rust = bench::once(&(e.clone(), e), |(mut s, p)| {
+        let joined = |(mut s, p): (Encoding, Encoding)| {
             s.merge_with(p, true);
             s
-        });
-        row(what, ours, rust, size.rows.len() / ROW);
+        };
+        let rust = bench::once(&(e.clone(), e.clone()), joined);
+        let kept = bench::once(&(), |()| joined((e.clone(), e.clone())));
+        row(what, ours, rust, kept, size.rows.len() / ROW);
     }
 }
 
@@ -428,6 +432,7 @@ fn time_folds() {
         let mut working = Batch { nodes: vec![0; NODE], rows: vec![0; b.rows.len()] };
         let ours = bench::alone(|| assert_eq!(lent.merge(black_box(&b), true, &mut working), 0));
         let rust = bench::once(&e, |e| Encoding::merge(e, true));
-        row(what, ours, rust, b.rows.len() / ROW);
+        let kept = bench::once(&(), |()| Encoding::merge(e.clone(), true));
+        row(what, ours, rust, kept, b.rows.len() / ROW);
     }
 }
