@@ -26,15 +26,20 @@ const UPPER_B: u8 = b'B';
 
 const LOWER_B: u8 = b'b';
 
-const SEQUENCE_A: u32 = 0;
-
-const SEQUENCE_B: u32 = 1;
-
-const SPECIAL: u32 = 2;
-
 pub enum NumberAnswer {
     Unreadable,
     Number(u32),
+}
+
+// The kinds of piece.
+pub struct Kind {}
+
+impl Kind {
+    pub const A: u32 = 0;
+
+    pub const B: u32 = 1;
+
+    pub const SPECIAL: u32 = 2;
 }
 
 // What a part is: its kind (0 A, 1 B, 2 special), its type, and its id's start and length in the text (0 for A, B).
@@ -98,7 +103,7 @@ fn named(id: &[u8], start: usize) -> PieceAnswer
         }
     }
     PieceAnswer::Read {
-        kind: SPECIAL,
+        kind: Kind::SPECIAL,
         type_id: 0,
         start,
         length: id.len(),
@@ -110,7 +115,7 @@ fn sequence_of(name: &[u8]) -> PieceAnswer
     ensures { λ r. ⌜ r ≡ pieceAnswer (sequenceOf (now (name .entry))) ⌝ }
 {
     if name.len() == 0 {
-        return sequence(SEQUENCE_A, 0);
+        return sequence(Kind::A, 0);
     }
     if name.len() == 1 {
         return lettered(name);
@@ -125,16 +130,16 @@ fn lettered(name: &[u8]) -> PieceAnswer
 {
     let letter = name[0];
     if letter == UPPER_A {
-        return sequence(SEQUENCE_A, 0);
+        return sequence(Kind::A, 0);
     }
     if letter == LOWER_A {
-        return sequence(SEQUENCE_A, 0);
+        return sequence(Kind::A, 0);
     }
     if letter == UPPER_B {
-        return sequence(SEQUENCE_B, 0);
+        return sequence(Kind::B, 0);
     }
     if letter == LOWER_B {
-        return sequence(SEQUENCE_B, 0);
+        return sequence(Kind::B, 0);
     }
     numbered(name)
 }
@@ -146,7 +151,7 @@ fn numbered(name: &[u8]) -> PieceAnswer
     let NumberAnswer::Number(type_id) = read_number(name) else {
         return PieceAnswer::Unreadable;
     };
-    sequence(SEQUENCE_A, type_id)
+    sequence(Kind::A, type_id)
 }
 
 fn sequence(kind: u32, type_id: u32) -> PieceAnswer

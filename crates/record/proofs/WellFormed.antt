@@ -30,7 +30,7 @@ tells-and {a} {b} {A} {B} s t = record { so = λ e. go a (s .so) e; back = λ (x
     go true f e = (f refl, t .so e)
     go false f e = absurd (false≢true e)
 
-pub tells-or : {a b : Bool} {A B : Type 0} → Tells a A → Tells b B → Tells (a || b) (A ⊎ B)
+tells-or : {a b : Bool} {A B : Type 0} → Tells a A → Tells b B → Tells (a || b) (A ⊎ B)
 tells-or {a} {b} {A} {B} s t = record { so = λ e. go a (s .so) e; back = forth a (s .back) }
   where
     go : (c : Bool) → (c ≡ true → A) → (c || b) ≡ true → A ⊎ B

@@ -14,7 +14,7 @@ use Rattle.record.specs.declared.Refusal.{Refusal}
 use Rattle.record.specs.declared.Refusal.the-variants.{IdsAndTextsDiffer, MalformedTable}
 use Rattle.record.proofs.WellFormed.{Tells, tells-le, tells-eq, tells-and, tells-all}
 use Rattle.sequences.specs.First.{lastFrom, orElse}
-use Rattle.sequences.proofs.First.{last-found}
+use Rattle.sequences.proofs.First.{last-found, last-nothing}
 use Rattle.sequences.proofs.Ranges.{all-at}
 use Rattle.special.specs.Table.{Entry, Member, Special, entryWidth, memberWidth, noEntry, mostEntries, entriesIn, membersIn, entryOk, memberOk, wellMade, agrees, specialOf, Table, faulty, sound, readTable, tableAnswer, noSpecial, atPlace, hasId, lastWith, entryHasId, foundAnswer, IdsInside}
 use Rattle.special.specs.declared.TableAnswer.the-variants.{Refused, Sound}
@@ -101,6 +101,14 @@ unfolding foundAnswer
 found-none nothing e = refl
 found-none (some n) e = cc
 
+module _ (entries added id : List ℕ) {k : ℕ} (e : foundAnswer (lastFrom (entryHasId added id) 0 (entriesIn entries)) ≡ At k) where
+  found-at : lastFrom (entryHasId added id) 0 (entriesIn entries) ≡ some k
+  found-at = found-place (lastFrom (entryHasId added id) 0 (entriesIn entries)) e
+
+  -- what is found is one of the entries
+  pub found-among : k < length entries / entryWidth
+  found-among = omega (arith, last-found (entryHasId added id) noEntry 0 (entriesIn entries) k found-at .inside, entries-number entries)
+
 module _ {entries members added : List ℕ} {table : List Special} (h : TableHolds entries members added table) where
   pub ids-inside : IdsInside entries added
   ids-inside = record { inside = firsts (entriesIn entries) (h .entries-fit) }
@@ -113,26 +121,36 @@ module _ {entries members added : List ℕ} {table : List Special} (h : TableHol
   search-is : (id : List ℕ) → lastFrom (hasId id) 0 table ≡ lastFrom (entryHasId added id) 0 (entriesIn entries)
   search-is id = ap (lastFrom (hasId id) 0) (h .table-is) ∙ last-map (hasId id) (specialOf (membersIn members) added) 0 (entriesIn entries)
 
-  pub unknown-is : (id : List ℕ) → foundAnswer (lastFrom (entryHasId added id) 0 (entriesIn entries)) ≡ Unknown → lastWith id table ≡ nothing
+  -- no entry has the id
+  pub missing : (id : List ℕ) → lastFrom (entryHasId added id) 0 (entriesIn entries) ≡ nothing → lastWith id table ≡ nothing
   unfolding lastWith
-  unknown-is id e = ap (atPlace table) (search-is id ∙ found-none (lastFrom (entryHasId added id) 0 (entriesIn entries)) e)
+  missing id e = ap (atPlace table) (search-is id ∙ e)
+
+  pub unknown-is : (id : List ℕ) → foundAnswer (lastFrom (entryHasId added id) 0 (entriesIn entries)) ≡ Unknown → lastWith id table ≡ nothing
+  unknown-is id e = missing id (found-none (lastFrom (entryHasId added id) 0 (entriesIn entries)) e)
+
+  -- some entry has the id
+  pub present : (id : List ℕ) (k : ℕ) → k < length entries / entryWidth → entryHasId added id (getD (entriesIn entries) k noEntry) ≡ true → (s : Special) × (lastWith id table ≡ some s)
+  unfolding lastWith
+  present id k among has = go (lastFrom (entryHasId added id) 0 (entriesIn entries)) refl
+    where
+      go : (o : Option ℕ) → lastFrom (entryHasId added id) 0 (entriesIn entries) ≡ o → (s : Special) × (atPlace table (lastFrom (hasId id) 0 table) ≡ some s)
+      go nothing e =
+          let none : entryHasId added id (getD (entriesIn entries) k noEntry) ≡ false = last-nothing (entryHasId added id) noEntry 0 (entriesIn entries) e k (omega (arith, entries-number entries)) in
+          let z : _≡_ {A = ℕ} 0 1 = cc in
+          absurd (omega arith)
+      go (some j) e = (getD table j noSpecial, ap (atPlace table) (search-is id ∙ e))
 
   -- the special id of the entry at a place
   abbrev pub specialAt : ℕ → Special
   specialAt k = specialOf (membersIn members) added (getD (entriesIn entries) k noEntry)
 
   module _ (id : List ℕ) {k : ℕ} (e : foundAnswer (lastFrom (entryHasId added id) 0 (entriesIn entries)) ≡ At k) where
-    place : lastFrom (entryHasId added id) 0 (entriesIn entries) ≡ some k
-    place = found-place (lastFrom (entryHasId added id) 0 (entriesIn entries)) e
-
-    pub found-among : k < length entries / entryWidth
-    found-among = omega (arith, last-found (entryHasId added id) noEntry 0 (entriesIn entries) k place .inside, entries-number entries)
-
     pub found-is : lastWith id table ≡ some (specialAt k)
     unfolding lastWith
     found-is =
-        ap (atPlace table) (search-is id ∙ place)
-        ∙ ap some (ap (λ (l : List Special). getD l k noSpecial) (h .table-is) ∙ map-nth (specialOf (membersIn members) added) (entriesIn entries) k noEntry noSpecial (omega (arith, found-among, entries-number entries)))
+        ap (atPlace table) (search-is id ∙ found-at entries added id e)
+        ∙ ap some (ap (λ (l : List Special). getD l k noSpecial) (h .table-is) ∙ map-nth (specialOf (membersIn members) added) (entriesIn entries) k noEntry noSpecial (omega (arith, found-among entries added id e, entries-number entries)))
 
   -- an entry has as many members as it has ids
   pub ids-number : {k : ℕ} → k < length entries / entryWidth → length (specialAt k .members) ≡ getD entries (k * entryWidth + 3) 0

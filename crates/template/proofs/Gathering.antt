@@ -1,7 +1,7 @@
 -- The pieces of a text as they are gathered: what holds after each part, and at each way out.
 -- Assumes nothing.
 use mathlib.Core.Path.{_≡_, refl, ap, sym, _∙_}
-use mathlib.Core.Bool.{true, false}
+use mathlib.Core.Bool.{true}
 use mathlib.Core.Option.{Option, none as nothing, some}
 use Prim.Native.Nat.{ℕ, suc, _+_, _*_, _≤_, _<_}
 use native.Mathlib.Omega.{arith}
@@ -9,19 +9,19 @@ use mathlib.Core.List.{List, [], _∷_, _++_, flatMap, append-assoc, append-nil}
 use lib.ListN.{length, take, drop, replicate, length-append}
 use lib.Seq.{sets, length-sets}
 use Rattle.record.proofs.Sets.{sets-append, sets-over}
-use Rattle.record.proofs.WellFormed.{tells-le, tells-and}
 use Rattle.record.specs.Outcome.{over}
 use Rattle.record.specs.declared.Refusal.{Refusal}
-use Rattle.record.specs.declared.Refusal.the-variants.{PartUnreadable, TemplateTooLong}
+use Rattle.record.specs.declared.Refusal.the-variants.{PartUnreadable}
 use Rattle.parts.specs.Parts.{parts, stepAt}
 use Rattle.parts.specs.declared.PartAnswer.the-variants.{Part, End}
 use Rattle.pieces.specs.Piece.{Piece, sequenceA, sequenceB, special, readPart, pieceNumbers, pieceAnswer}
-use Rattle.template.specs.Template.{mostBytes, mostParts, pieceWidth, follows, readParts, refused, short, ofPieces, readTemplate, answerOf, numbersOf, templateOf, RoomFor, Gathered}
+use Rattle.template.specs.Template.{mostParts, pieceWidth, follows, readParts, refused, short, ofPieces, readTemplate, answerOf, numbersOf, templateOf, RoomFor, Gathered}
 use Rattle.pieces.specs.declared.PieceAnswer.the-variants.{Unreadable}
 use Rattle.template.specs.declared.TemplateAnswer.{TemplateAnswer}
 use Rattle.template.specs.declared.TemplateAnswer.the-variants.{Refused, Read}
 use Rattle.template.specs.declared.Template.{Template}
 use Rattle.pieces.proofs.Lies.{ReadAs, answer-none}
+use Rattle.template.proofs.Answers.{short-is, template-short}
 use Rattle.template.proofs.Walked.{Walked, walked-start, walked-on, walked-few, walked-end, walked-bad, part-inside}
 
 -- ---- The numbers of pieces
@@ -47,11 +47,6 @@ pieces-append (p ∷ ps) qs = rw (pieces-append ps qs, append-assoc)
 pieces-more : (ps : List Piece) (p : Piece) {numbers : List ℕ} → pieceNumbers p ≡ numbers → flatMap pieceNumbers (ps ++ (p ∷ [])) ≡ flatMap pieceNumbers ps ++ numbers
 unfolding flatMap
 pieces-more ps p e = pieces-append ps (p ∷ []) ∙ ap (_++_ (flatMap pieceNumbers ps)) (append-nil (pieceNumbers p) ∙ e)
-
--- ---- Texts that are short enough
-
-pub short-is : (text : List ℕ) → short text ≡ true → (length text ≤ mostBytes) × (length (parts text) ≤ mostParts)
-short-is text = tells-and (tells-le (length text) mostBytes) (tells-le (length (parts text)) mostParts) .so
 
 -- ---- Gathering
 
@@ -106,14 +101,6 @@ module _ {text numbers : List ℕ} {at count : ℕ} {numbers′ : List ℕ} (g :
         })
 
 -- ---- The whole answer
-
-pub template-long : (text : List ℕ) → short text ≡ false → readTemplate text ≡ refused TemplateTooLong
-unfolding readTemplate
-template-long text e = rw e
-
-pub template-short : (text : List ℕ) → short text ≡ true → readTemplate text ≡ ofPieces (readParts 0 (parts text))
-unfolding readTemplate
-template-short text e = rw e
 
 -- as many pieces as parts
 pub pieces-number : (start : ℕ) (left : List (List ℕ)) {ps : List Piece} → readParts start left ≡ some ps → length ps ≡ length left

@@ -11,7 +11,7 @@ use Rattle.parts.specs.Split.{split}
 use Rattle.pieces.specs.Number.{afterSign, readNumber}
 use Rattle.pieces.specs.Piece.{same, sequenceOf, named, withType, readPart}
 use Rattle.template.specs.Template.{readParts, refused, readTemplate, readingNumbers}
-use Rattle.template.proofs.Gathering.{template-long}
+use Rattle.template.proofs.Answers.{template-long}
 
 -- What reading a text says, as numbers, and what the sample says.
 pub record Sample : Type 0 where

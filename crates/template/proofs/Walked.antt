@@ -36,6 +36,14 @@ map-one-more passed piece nothing = refl
 map-one-more passed piece (some ps) = ap some (sym (append-snoc passed piece ps))
 
 module _ {text : List ℕ} {at : ℕ} {passed : List Piece} (w : Walked text at passed) where
+  -- the pieces passed are the first of all
+  pub walked-first : {pieces : List Piece} → readParts 0 (parts text) ≡ some pieces → (rest : List Piece) × (pieces ≡ passed ++ rest)
+  walked-first {pieces} e = go (readParts at (partsFrom text at)) (sym (w .pieces-are) ∙ e)
+    where
+      go : (o : Option (List Piece)) → Option·map (_++_ passed) o ≡ some pieces → (rest : List Piece) × (pieces ≡ passed ++ rest)
+      go nothing e = let z : _≡_ {A = ℕ} 0 1 = cc in absurd (omega arith)
+      go (some rest) e = (rest, cc)
+
   -- the end: the pieces passed are all
   pub walked-end : stepAt text at .answer ≡ End → readParts 0 (parts text) ≡ some passed
   unfolding readParts

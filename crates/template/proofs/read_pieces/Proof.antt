@@ -13,7 +13,8 @@ use Rattle.pieces.specs.Piece.{readPart}
 use Rattle.template.specs.Template.{mostBytes, mostParts}
 use Rattle.pieces.proofs.Lies.{ReadAs, piece-read, piece-within}
 use Rattle.template.proofs.Walked.{walked-moves}
-use Rattle.template.proofs.Gathering.{short-is, Gathering, kept, gather-few, gather-start, gather-end, gather-inside, gather-bad, gather-room, gather-on}
+use Rattle.template.proofs.Answers.{short-is}
+use Rattle.template.proofs.Gathering.{Gathering, kept, gather-few, gather-start, gather-end, gather-inside, gather-bad, gather-room, gather-on}
 use Rattle.template.proofs.read_pieces.Statement.{statement}
 use Rattle.template.proofs.read_pieces.Tie as tie
 

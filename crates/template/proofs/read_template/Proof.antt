@@ -5,7 +5,8 @@ use denote.Ref.{now}
 use borrow.Author.Needs.{needs}
 use borrow.Author.Tests.{not-true, not-false}
 use Rattle.template.specs.Template.{short, templateOf}
-use Rattle.template.proofs.Gathering.{template-long, gathered-none, gathered-some}
+use Rattle.template.proofs.Answers.{template-long}
+use Rattle.template.proofs.Gathering.{gathered-none, gathered-some}
 use Rattle.template.proofs.read_template.Statement.{statement}
 use Rattle.template.proofs.read_template.Tie as tie
 
