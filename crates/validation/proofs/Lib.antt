@@ -1,0 +1,6 @@
+mod Pieces
+mod Naming
+mod Counting
+mod Knowing
+mod Deciding
+mod Samples
