@@ -1,0 +1,4 @@
+pub mod Text
+pub mod Asked
+pub mod Answer
+pub mod Writing

@@ -1,0 +1,46 @@
+-- `answer` keeps the output ready: the first line has the room that was made. Assumes nothing.
+use borrow.Author.Needs.{needs}
+use Rattle.listing.proofs.Choosing.{first-ready}
+use Rattle.window_lister.proofs.answer.Statement.{statement}
+use Rattle.window_lister.proofs.answer.Tie as tie
+
+make-room-requires : tie.Need-make-room-requires
+make-room-requires c κs = search needs
+
+write-first-requires : tie.Need-write-first-requires
+write-first-requires c κs = search needs
+
+enum-told : tie.Need-enum-told
+enum-told c = search needs
+
+enum-known-asked : tie.Need-enum-known-asked
+enum-known-asked c = search needs
+
+list-windows-requires : tie.Need-list-windows-requires
+list-windows-requires c κs = first-ready _ (c .before .before .before .before .before .before .before .before .before .before .before .pre) (c .before .before .before .before .before .before .before .before .make-room .ensures) (c .before .before .before .before .before .before .write-first .ensures)
+
+same-length : tie.Need-same-length
+same-length c = search needs
+
+returns : tie.Need-returns
+returns c = first-ready _ (c .before .before .before .before .before .before .before .before .before .pre) (c .before .before .before .before .before .before .make-room .ensures) (c .before .before .before .before .write-first .ensures)
+
+same-length-2 : tie.Need-same-length-2
+same-length-2 c = search needs
+
+returns-2 : tie.Need-returns-2
+returns-2 c = search needs
+
+pub answer-spec : {M : Type 1} → statement M
+answer-spec =
+    tie.close
+    (tie.spec
+    make-room-requires
+    write-first-requires
+    enum-told
+    enum-known-asked
+    list-windows-requires
+    same-length
+    returns
+    same-length-2
+    returns-2)
