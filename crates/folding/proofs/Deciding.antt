@@ -10,10 +10,10 @@ use Rattle.record.specs.Tree.{Forest, listed, forest, tops}
 use Rattle.record.specs.WellFormed.{Stores, WellFormed}
 use Rattle.record.specs.Read.{Reading, malformed, holds, read}
 use Rattle.record.specs.Standing.{Put}
-use Rattle.record.specs.Outcome.{refused}
+use Rattle.record.specs.Outcome.{Room, refused}
 use Rattle.record.specs.declared.Refusal.the-variants.{MalformedRecord, NoRoom, OffsetTooLarge}
 use Rattle.record.specs.declared.Written.the-variants.{Done}
-use Rattle.record.proofs.Outcome.{Room, writes-done, room-lengths}
+use Rattle.record.proofs.Outcome.{writes-done, room-lengths}
 use Rattle.record.proofs.Read.{stored}
 use Rattle.record.proofs.Tree.{forest-listed}
 use Rattle.batch.specs.Answers.{shapeOf}

@@ -11,9 +11,9 @@ use Rattle.record.specs.Tree.{Row, Range, Forest, none, node, Encoding, listed,
 use Rattle.record.specs.Flat.{rowWidth, nodeWidth, flatNodes, flatRows}
 use Rattle.record.specs.WellFormed.{WellFormed, Stores, nodesIn}
 use Rattle.record.specs.Standing.{Here, Put}
+use Rattle.record.specs.Outcome.{Room}
 use Rattle.record.proofs.Flat.{length-nodes}
 use Rattle.record.proofs.Here.{here-first, here-next, here-nodes-fit, here-rows-fit}
-use Rattle.record.proofs.Outcome.{Room}
 use Rattle.record.proofs.Read.{unique}
 use Rattle.record.proofs.Standing.{at-top}
 use Rattle.merge.specs.Join.{join, foldFrom, fold}

@@ -11,7 +11,7 @@ use Rattle.record.specs.Tree.{Forest, none, node, Encoding, listed, forest, win
 use Rattle.record.specs.Flat.{rowWidth, nodeWidth}
 use Rattle.record.specs.WellFormed.{Fine, nodesIn, rowsIn}
 use Rattle.record.specs.Standing.{Here, Put}
-use Rattle.record.proofs.Outcome.{Room}
+use Rattle.record.specs.Outcome.{Room}
 use Rattle.record.proofs.Standing.{at-count}
 use Rattle.merge.specs.Join.{base, join}
 use Rattle.merge.specs.Offsets.{joinFits}

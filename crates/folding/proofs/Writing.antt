@@ -11,8 +11,9 @@ use Rattle.record.specs.Tree.{Forest, Encoding, forest}
 use Rattle.record.specs.Flat.{rowWidth, nodeWidth, flatNodes, flatRows}
 use Rattle.record.specs.WellFormed.{Fine, WellFormed, nodesIn, rowsIn}
 use Rattle.record.specs.Standing.{Here, Put}
+use Rattle.record.specs.Outcome.{Room}
 use Rattle.record.proofs.Flat.{length-nodes, length-rows}
-use Rattle.record.proofs.Outcome.{Room, room-lengths}
+use Rattle.record.proofs.Outcome.{room-lengths}
 use Rattle.record.proofs.Sets.{sets-over}
 use Rattle.merge.proofs.Sizes.{NoMore}
 

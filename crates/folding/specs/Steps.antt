@@ -7,7 +7,7 @@ use Prim.Native.Nat.{ℕ}
 use Rattle.record.specs.Tree.{Forest, Encoding, listed, forest, tops}
 use Rattle.record.specs.WellFormed.{Stores}
 use Rattle.record.specs.Standing.{Here, Put}
-use Rattle.record.proofs.Outcome.{Room}
+use Rattle.record.specs.Outcome.{Room}
 use Rattle.merge.specs.Join.{join, fold}
 use Rattle.merge.specs.Offsets.{joinFits, foldFits}
 use Rattle.joint.specs.declared.Spot.{Spot}

@@ -14,12 +14,12 @@ use Rattle.record.specs.Flat.{rowWidth, nodeWidth, rangeNumbers, flatNodes, fla
 use Rattle.record.specs.WellFormed.{Fine, nodesIn, rowsIn}
 use Rattle.record.specs.Read.{Reading, read, isOne}
 use Rattle.record.specs.Standing.{One}
-use Rattle.record.specs.Outcome.{refused, inRoom, Writes}
+use Rattle.record.specs.Outcome.{Room, refused, inRoom, Writes}
 use Rattle.record.specs.declared.Refusal.the-variants.{MalformedRecord, NoRoom, SequenceIdAboveLast}
 use Rattle.record.specs.declared.Written.the-variants.{Done}
 use Rattle.record.proofs.Flat.{length-nodes, length-rows, range-stored}
 use Rattle.record.proofs.One.{one-of, not-one, one-fine, one-size, one-nodes-long}
-use Rattle.record.proofs.Outcome.{Room, in-room, no-room, room-lengths, writes-done}
+use Rattle.record.proofs.Outcome.{in-room, no-room, room-lengths, writes-done}
 use Rattle.making.specs.Writing.{presentRange}
 use Rattle.making.specs.Making.{wholeRange, setSequence, setSequenceId}
 use Rattle.making.proofs.Parts.{sets-inside}

@@ -14,11 +14,11 @@ use Rattle.record.specs.Tree.{Row, Forest, forest, sequences, absent}
 use Rattle.record.specs.Flat.{rowWidth, nodeWidth, rowNumbers, rangeNumbers, flatNodes, flatRows}
 use Rattle.record.specs.WellFormed.{RangeFine, RowFine, Fine, nodesIn, rowsIn, mostRows}
 use Rattle.record.specs.Read.{several}
-use Rattle.record.specs.Outcome.{refused, inRoom, Writes}
+use Rattle.record.specs.Outcome.{Room, refused, inRoom, Writes}
 use Rattle.record.specs.declared.Refusal.the-variants.{MalformedRecord, NoRoom}
 use Rattle.record.specs.declared.Written.the-variants.{Done}
 use Rattle.record.proofs.Flat.{row-stored}
-use Rattle.record.proofs.Outcome.{Room, in-room, no-room, room-lengths, writes-done}
+use Rattle.record.proofs.Outcome.{in-room, no-room, room-lengths, writes-done}
 use Rattle.making.specs.Making.{tokenWidth, tokenRow, ofTokens, fromTokens}
 use Rattle.making.proofs.Runs.{several-length, several-more, all-several, all-replicate, sets-more}
 

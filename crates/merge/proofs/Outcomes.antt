@@ -14,13 +14,13 @@ use Rattle.record.specs.Flat.{rowWidth, nodeWidth, flatNodes, flatRows}
 use Rattle.record.specs.WellFormed.{Fits, WellFormed, Stores, nodesIn, rowsIn}
 use Rattle.record.specs.Read.{Reading, malformed, holds, read, fitsOk, sole, ofOne, ofAny, isOne}
 use Rattle.record.specs.Standing.{One}
-use Rattle.record.specs.Outcome.{Outcome, refused, done, left, zeros, Writes}
+use Rattle.record.specs.Outcome.{Room, Outcome, refused, done, left, zeros, Writes}
 use Rattle.record.specs.declared.Refusal.the-variants.{MalformedRecord, NoRoom, OffsetTooLarge}
 use Rattle.record.specs.declared.Written.{Written}
 use Rattle.record.specs.declared.Written.the-variants.{Refused}
 use Rattle.record.proofs.Tree.{forest-listed}
 use Rattle.record.proofs.One.{one-of, not-one}
-use Rattle.record.proofs.Outcome.{Room, in-room, no-room}
+use Rattle.record.proofs.Outcome.{in-room, no-room}
 use Rattle.record.proofs.Read.{found, stored}
 use Rattle.record.proofs.WellFormed.{Tells, tells-le, tells-and₃, tells-fits}
 use Rattle.merge.specs.Join.{join, fold}

@@ -12,8 +12,8 @@ use lib.ListN.{length, length-append}
 use Rattle.record.specs.Tree.{Row, Range, Forest, none, node, Encoding, listed, forest, windows}
 use Rattle.record.specs.Flat.{rowWidth, nodeWidth}
 use Rattle.record.specs.WellFormed.{Fits, nodesIn, rowsIn, levels}
+use Rattle.record.specs.Outcome.{Room}
 use Rattle.record.proofs.Tree.{listed-forest}
-use Rattle.record.proofs.Outcome.{Room}
 use Rattle.merge.specs.Join.{joinRows, withEach, eachWith, join, windowCount, foldFrom}
 use Rattle.merge.proofs.Rows.{length-joinRows}
 

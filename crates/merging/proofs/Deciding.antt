@@ -9,11 +9,11 @@ use lib.ListN.{length}
 use Rattle.record.specs.Tree.{Encoding, forest}
 use Rattle.record.specs.Read.{read}
 use Rattle.record.specs.Standing.{One, Here, Put}
-use Rattle.record.specs.Outcome.{refused, Writes}
+use Rattle.record.specs.Outcome.{Room, refused, Writes}
 use Rattle.record.specs.declared.Refusal.the-variants.{NoRoom, OffsetTooLarge}
 use Rattle.record.specs.declared.Written.the-variants.{Done}
 use Rattle.record.proofs.One.{one-at}
-use Rattle.record.proofs.Outcome.{Room, writes-done, room-lengths}
+use Rattle.record.proofs.Outcome.{writes-done, room-lengths}
 use Rattle.merge.specs.Join.{join}
 use Rattle.merge.specs.Offsets.{joinFits}
 use Rattle.merge.specs.Outcomes.{joinOutcome}

@@ -13,8 +13,8 @@ use Rattle.record.specs.Tree.{Encoding, forest, windows}
 use Rattle.record.specs.Flat.{rowWidth, nodeWidth, flatNodes, flatRows}
 use Rattle.record.specs.WellFormed.{mostRows}
 use Rattle.record.specs.Standing.{At}
+use Rattle.record.specs.Outcome.{Room}
 use Rattle.record.proofs.Flat.{length-nodes}
-use Rattle.record.proofs.Outcome.{Room}
 use Rattle.record.proofs.Standing.{at-size, at-count}
 use Rattle.record.proofs.WellFormed.{Tells, tells-le, tells-and₃}
 use Rattle.merge.specs.Join.{join}

@@ -13,12 +13,12 @@ use Rattle.record.specs.Flat.{rowWidth, nodeWidth, flatNodes, flatRows}
 use Rattle.record.specs.WellFormed.{Stores, nodesIn, mostRows}
 use Rattle.record.specs.Read.{Reading, read, isOne}
 use Rattle.record.specs.Standing.{One}
-use Rattle.record.specs.Outcome.{Outcome, refused, inRoom, Writes}
+use Rattle.record.specs.Outcome.{Room, Outcome, refused, inRoom, Writes}
 use Rattle.record.specs.declared.Refusal.the-variants.{MalformedRecord, NoRoom, TextOutsidePool}
 use Rattle.record.specs.declared.Written.{Written}
 use Rattle.record.specs.declared.Written.the-variants.{Done}
 use Rattle.record.proofs.One.{one-of, not-one}
-use Rattle.record.proofs.Outcome.{Room, in-room, no-room, room-lengths, writes-done}
+use Rattle.record.proofs.Outcome.{in-room, no-room, room-lengths, writes-done}
 use Rattle.batch.specs.Answers.{shapeOf}
 use Rattle.batch.specs.declared.Shape.the-variants.{Malformed}
 use Rattle.text.proofs.Checked.{none-of, any-of}

@@ -10,8 +10,8 @@ use Rattle.record.specs.Tree.{Forest, Encoding, forest}
 use Rattle.record.specs.Flat.{rowWidth, nodeWidth}
 use Rattle.record.specs.WellFormed.{Stores}
 use Rattle.record.specs.Standing.{One}
+use Rattle.record.specs.Outcome.{Room}
 use Rattle.record.proofs.One.{one-at}
-use Rattle.record.proofs.Outcome.{Room}
 use Rattle.sizing.specs.declared.Answer.{Answer}
 use Rattle.sizing.specs.Levels.{Measures}
 use Rattle.profile.specs.Stored.{Stands, CountsNodes, CountsRows, Holds}

@@ -13,7 +13,7 @@ use Rattle.record.specs.Flat.{rowWidth, nodeWidth, flatNodes, flatRows}
 use Rattle.record.specs.WellFormed.{Fine, Fits, nodesIn, rowsIn}
 use Rattle.record.specs.Read.{fitsOk}
 use Rattle.record.specs.Refusals.{numberOf}
-use Rattle.record.specs.Outcome.{Outcome, refused, done, inRoom, left, answered, afterRefusal, Writes}
+use Rattle.record.specs.Outcome.{Outcome, refused, done, inRoom, Room, left, answered, afterRefusal, Writes}
 use Rattle.record.specs.declared.Refusal.{Refusal}
 use Rattle.record.specs.declared.Refusal.the-variants.{NoRoom}
 use Rattle.record.specs.declared.Written.{Written}
@@ -21,12 +21,6 @@ use Rattle.record.specs.declared.Written.the-variants.{Refused, Done}
 use Rattle.record.proofs.Flat.{length-nodes, length-rows}
 use Rattle.record.proofs.Sets.{sets-over}
 use Rattle.record.proofs.WellFormed.{Tells, tells-le, tells-and₃, tells-fits}
-
--- f is within the limits and an output of the two lists
-pub record Room (nodes rows : List ℕ) (f : Forest) : Type 0 where
-  pub fits : Fits f
-  pub nodes-fit : nodesIn f * nodeWidth ≤ length nodes
-  pub rows-fit : rowsIn f * rowWidth ≤ length rows
 
 tells-room : (nodes rows : List ℕ) (f : Forest) → Tells (fitsOk f && (leb (nodesIn f * nodeWidth) (length nodes) && leb (rowsIn f * rowWidth) (length rows))) (Fits f × (nodesIn f * nodeWidth ≤ length nodes) × (rowsIn f * rowWidth ≤ length rows))
 tells-room nodes rows f = tells-and₃ (tells-fits f) (tells-le (nodesIn f * nodeWidth) (length nodes)) (tells-le (rowsIn f * rowWidth) (length rows))

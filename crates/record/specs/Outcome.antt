@@ -2,13 +2,13 @@
 -- Assumes nothing: these are definitions.
 use mathlib.Core.Path.{_≡_}
 use mathlib.Core.Bool.{Bool, true, false, _&&_, cond}
-use Prim.Native.Nat.{ℕ, _*_}
+use Prim.Native.Nat.{ℕ, _*_, _≤_}
 use mathlib.Core.List.{List, [], _∷_, _++_}
 use lib.Dec.{leb, eqb}
 use lib.ListN.{length, drop, replicate}
 use Rattle.record.specs.Tree.{Forest}
 use Rattle.record.specs.Flat.{rowWidth, nodeWidth, flatNodes, flatRows}
-use Rattle.record.specs.WellFormed.{nodesIn, rowsIn}
+use Rattle.record.specs.WellFormed.{Fits, nodesIn, rowsIn}
 use Rattle.record.specs.Read.{fitsOk}
 use Rattle.record.specs.Refusals.{numberOf}
 use Rattle.record.specs.declared.Refusal.{Refusal}
@@ -25,6 +25,12 @@ pub data Outcome : Type 0 where
 -- holds": f as the result in an output of the two lists
 unfoldable pub inRoom : List ℕ → List ℕ → Forest → Outcome
 inRoom nodes rows f = cond (fitsOk f && (leb (nodesIn f * nodeWidth) (length nodes) && leb (rowsIn f * rowWidth) (length rows))) (done f) (refused NoRoom)
+
+-- the same as a fact: f is within the limits and an output of the two lists (`in-room`, `no-room` of proofs/Outcome)
+pub record Room (nodes rows : List ℕ) (f : Forest) : Type 0 where
+  pub fits : Fits f
+  pub nodes-fit : nodesIn f * nodeWidth ≤ length nodes
+  pub rows-fit : rowsIn f * rowWidth ≤ length rows
 
 -- ---- The answer
 
