@@ -86,7 +86,7 @@ pub fn text_used<'a>(set: bool, text: &'a [u8], unset: &'a [u8]) -> &'a [u8]
 }
 
 // Whether a template names A and B. Refused with 8, then 7.
-fn sequences_in(text: &[u8]) -> SequencesAnswer
+pub fn sequences_in(text: &[u8]) -> SequencesAnswer
     ensures { λ r. ⌜ r ≡ sequencesAnswer (readTemplate (now (text .entry))) ⌝ }
 {
     if !template::is_short(text) {
@@ -140,7 +140,7 @@ fn both_known(single: &[u8], pair: &[u8], entries: &[u32], added: &[u8]) -> Vali
 
 // Whether every special id of a template is in the table. The walk over its parts and the table's entries is left at the
 // first that is not.
-fn all_known(text: &[u8], entries: &[u32], added: &[u8]) -> Validity
+pub fn all_known(text: &[u8], entries: &[u32], added: &[u8]) -> Validity
     requires { ⌜ IdsInside (now entries) (now added) ⌝ }
     ensures { λ r. ⌜ KnownIn (now (text .entry)) (now (entries .entry)) (now (added .entry)) r ⌝ }
 {
