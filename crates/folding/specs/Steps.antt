@@ -4,13 +4,12 @@ use mathlib.Core.Path.{_≡_}
 use mathlib.Core.Bool.{Bool, true}
 use mathlib.Core.List.{List, [], _∷_}
 use Prim.Native.Nat.{ℕ}
-use Rattle.record.specs.Tree.{Forest, Encoding, listed, forest, tops}
+use Rattle.record.specs.Tree.{Forest, listed, forest, tops}
 use Rattle.record.specs.WellFormed.{Stores}
-use Rattle.record.specs.Standing.{Here, Put}
+use Rattle.record.specs.Standing.{Put}
 use Rattle.record.specs.Outcome.{Room}
-use Rattle.merge.specs.Join.{join, fold}
-use Rattle.merge.specs.Offsets.{joinFits, foldFits}
-use Rattle.joint.specs.declared.Spot.{Spot}
+use Rattle.merge.specs.Join.{fold}
+use Rattle.merge.specs.Offsets.{foldFits}
 use Rattle.merging.specs.declared.Size.{Size}
 use Rattle.merging.specs.Sizes.{Sizes}
 use Rattle.merging.specs.Working.{Zeroed}
@@ -26,24 +25,6 @@ pub record AskSize (nodes rows : List ℕ) (count : ℕ) : Type 0 where
 -- how much the fold of whatever they store takes, growing or not
 abbrev pub SizesFold : List ℕ → List ℕ → Size → Type 0
 SizesFold nodes rows s = (growing : Bool) (f : Forest) → Stores nodes rows f → Sizes (fold growing (listed f)) s
-
--- ---- One encoding more
-
--- S stands at the front of the output and P at the spot; their join has room in the output and in the working store, and
--- its offsets stay within 32 bits.
-pub record AskStep (nodes rows : List ℕ) (p : Spot) (g : Bool) (out out′ working working′ : List ℕ) : Type 0 where
-  pub S : Encoding
-  pub P : Encoding
-  pub here-s : Here out out′ 0 0 (forest (S ∷ []))
-  pub here-p : Here nodes rows (p .node) (p .row) (forest (P ∷ []))
-  pub within : joinFits g S P ≡ true
-  pub room : Room out out′ (forest (join g S P ∷ []))
-  pub working-room : Room working working′ (forest (join g S P ∷ []))
-
--- Whatever two stand there, their join was written from the front of the output on.
-abbrev pub WritesStep : List ℕ → List ℕ → Spot → Bool → List ℕ → List ℕ → List ℕ → List ℕ → Type 0
-WritesStep nodes rows p g out out′ out₁ out₁′ =
-    (S P : Encoding) → Here out out′ 0 0 (forest (S ∷ [])) → Here nodes rows (p .node) (p .row) (forest (P ∷ [])) → Put (join g S P ∷ []) out 0 out′ 0 out₁ out₁′
 
 -- ---- All of them
 

@@ -2,7 +2,7 @@
 ghost use Rattle.record.specs.Read.{read};
 ghost use Rattle.merge.specs.Outcomes.{foldOutcome};
 ghost use Rattle.merging.specs.Working.{WritesWith};
-ghost use Rattle.folding.specs.Steps.{AskSize, SizesFold, AskStep, WritesStep, AskFold, WritesFold, ZeroedAll};
+ghost use Rattle.folding.specs.Steps.{AskSize, SizesFold, AskFold, WritesFold, ZeroedAll};
 use batch::Shape;
 use joint::Spot;
 use joint::View;
@@ -26,71 +26,6 @@ fn fold_size(nodes: &[u32], rows: &[u32], count: usize) -> Size
     merging::size_of(profile::folded_profile(nodes))
 }
 
-// The encoding at p joined to the one in the output, by way of the working store.
-fn join_over(
-    nodes: &[u32],
-    rows: &[u32],
-    p: Spot,
-    growing: bool,
-    out_nodes: &mut [u32],
-    out_rows: &mut [u32],
-    working_nodes: &mut [u32],
-    working_rows: &mut [u32],
-)
-    requires { ⌜ AskStep (now nodes) (now rows) p growing (now «out_nodes») (now «out_rows») (now «working_nodes») (now «working_rows») ⌝ }
-    ensures { λ _. ⌜ WritesStep (now (nodes .entry)) (now (rows .entry)) p growing (now («out_nodes» .entry)) (now («out_rows» .entry)) (now («out_nodes» .exit)) (now («out_rows» .exit)) ⌝ }
-{
-    let top = Spot { node: 0, row: 0 };
-    let end = joining::join_nodes(
-        out_nodes,
-        out_rows,
-        top,
-        nodes,
-        rows,
-        p,
-        View::Plain,
-        growing,
-        working_nodes,
-        working_rows,
-        top,
-    );
-    record::copy(working_nodes, 0, end.node, out_nodes, 0);
-    record::copy(working_rows, 0, end.row, out_rows, 0);
-}
-
-// The encoding at p joined to the one in the output. Where neither has windows its rows are appended in place.
-fn fold_step(
-    nodes: &[u32],
-    rows: &[u32],
-    p: Spot,
-    growing: bool,
-    out_nodes: &mut [u32],
-    out_rows: &mut [u32],
-    working_nodes: &mut [u32],
-    working_rows: &mut [u32],
-)
-    requires { ⌜ AskStep (now nodes) (now rows) p growing (now «out_nodes») (now «out_rows») (now «working_nodes») (now «working_rows») ⌝ }
-    ensures { λ _. ⌜ WritesStep (now (nodes .entry)) (now (rows .entry)) p growing (now («out_nodes» .entry)) (now («out_rows» .entry)) (now («out_nodes» .exit)) (now («out_rows» .exit)) ⌝ }
-{
-    let i = p.node;
-    if out_nodes[1] == 0 {
-        if nodes[i + 1] == 0 {
-            joint::append_node(nodes, rows, p, View::Plain, growing, out_nodes, out_rows);
-            return;
-        }
-    }
-    join_over(
-        nodes,
-        rows,
-        p,
-        growing,
-        out_nodes,
-        out_rows,
-        working_nodes,
-        working_rows,
-    );
-}
-
 // The fold of the batch, into the output.
 fn write_fold(
     nodes: &[u32],
@@ -104,16 +39,16 @@ fn write_fold(
     requires { ⌜ AskFold (now nodes) (now rows) growing (now «out_nodes») (now «out_rows») (now «working_nodes») (now «working_rows») ⌝ }
     ensures { λ _. ⌜ WritesFold (now (nodes .entry)) (now (rows .entry)) growing (now («out_nodes» .entry)) (now («out_rows» .entry)) (now («out_nodes» .exit)) (now («out_rows» .exit)) ⌝ }
 {
-    let empty = Encoding::empty();
-    record::copy(&empty, 0, Encoding::NODE_WIDTH, out_nodes, 0);
+    stepping::start(out_nodes);
     let mut i = 0;
     let mut j = 0;
     while i < nodes.len() {
         let own = extent::measure(nodes, i, 1);
-        fold_step(
+        stepping::fold_step(
             nodes,
             rows,
             Spot { node: i, row: j },
+            View::Plain,
             growing,
             out_nodes,
             out_rows,
