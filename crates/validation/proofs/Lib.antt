@@ -1,4 +1,4 @@
-mod Pieces
+pub mod Pieces
 mod Naming
 mod Counting
 mod Knowing
