@@ -1,0 +1,3 @@
+mod Piece
+mod Joined
+mod Planning
