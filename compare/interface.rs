@@ -1,4 +1,5 @@
-//! The exported functions of a Rattle source, as Rust declarations and as a C header.
+//! The exported functions of Rattle sources, as Rust declarations and as a C header.
+use std::collections::HashMap;
 
 pub struct Function {
     /// the comment lines directly above it, without their `//`
@@ -37,7 +38,33 @@ const NUMBERS: [Number; 5] = [
     Number { rust: "bool", c: "bool" },
 ];
 
-fn read_type(text: &str) -> Result<Type, String> {
+/// The lengths that a signature may give by name, as `Template::PIECES`.
+pub type Lengths = HashMap<String, usize>;
+
+/// A number, a length that is known by name, or a product of such.
+fn read_length(text: &str, known: &Lengths) -> Result<usize, String> {
+    let one = |t: &str| t.replace('_', "").parse().ok().or_else(|| known.get(t).copied()).ok_or(format!("not a length: {t}"));
+    text.split('*').map(|t| one(t.trim())).product()
+}
+
+/// The lengths that the `impl` blocks of a source declare.
+pub fn lengths(source: &str) -> Result<Lengths, String> {
+    let mut known = Lengths::new();
+    let mut owner = "";
+    for line in source.lines().map(str::trim) {
+        if let Some(name) = line.strip_prefix("impl ") {
+            owner = name.trim_end_matches('{').trim();
+        }
+        let declared = line.strip_prefix("pub const ").and_then(|t| t.trim_end_matches(';').split_once(": usize = "));
+        if let Some((name, value)) = declared {
+            let value = read_length(value, &known)?;
+            known.insert(format!("{owner}::{name}"), value);
+        }
+    }
+    Ok(known)
+}
+
+fn read_type(text: &str, lengths: &Lengths) -> Result<Type, String> {
     let text = text.trim();
     let (lent, mutable, inner) = match (text.strip_prefix("&mut "), text.strip_prefix('&')) {
         (Some(inner), _) => (true, true, inner.trim()),
@@ -46,7 +73,7 @@ fn read_type(text: &str) -> Result<Type, String> {
     };
     let elements = inner.strip_prefix('[').and_then(|t| t.strip_suffix(']'));
     let (element, length) = match elements.and_then(|t| t.split_once(';')) {
-        Some((element, n)) => (Some(element), Some(n.trim().parse().map_err(|_| format!("not a length: {text}"))?)),
+        Some((element, n)) => (Some(element), Some(read_length(n, lengths)?)),
         None => (elements, None),
     };
     let shape = match (lent, element, length) {
@@ -61,33 +88,33 @@ fn read_type(text: &str) -> Result<Type, String> {
     Ok(Type { number, shape, mutable })
 }
 
-fn read_parameters(text: &str) -> Result<Vec<(String, Type)>, String> {
+fn read_parameters(text: &str, lengths: &Lengths) -> Result<Vec<(String, Type)>, String> {
     let one = |p: &str| {
         let (name, t) = p.split_once(':').ok_or(format!("not a parameter: {p}"))?;
-        Ok((name.trim().trim_start_matches("mut ").to_string(), read_type(t)?))
+        Ok((name.trim().trim_start_matches("mut ").to_string(), read_type(t, lengths)?))
     };
     text.split(',').filter(|p| !p.trim().is_empty()).map(one).collect()
 }
 
 /// The function whose signature begins at the front of `text`, after `fn`.
-fn read_signature(doc: Vec<String>, text: &str) -> Result<Function, String> {
+fn read_signature(doc: Vec<String>, text: &str, lengths: &Lengths) -> Result<Function, String> {
     let (name, rest) = text.split_once('(').ok_or("a signature without parameters")?;
     let name = name.trim().to_string();
     let (parameters, rest) = rest.split_once(')').ok_or(format!("{name}: parameters without an end"))?;
     // What follows is the result, a contract clause or the body.
     let result = match rest.trim_start().strip_prefix("->") {
-        Some(t) => Some(read_type(t.split_whitespace().next().unwrap_or("").trim_end_matches('{'))?),
+        Some(t) => Some(read_type(t.split_whitespace().next().unwrap_or("").trim_end_matches('{'), lengths)?),
         None => None,
     };
     if result.as_ref().is_some_and(|t| t.shape != Shape::Value) {
         return Err(format!("{name}: a result must be a number"));
     }
-    let parameters = read_parameters(parameters).map_err(|e| format!("{name}: {e}"))?;
+    let parameters = read_parameters(parameters, lengths).map_err(|e| format!("{name}: {e}"))?;
     Ok(Function { doc, name, parameters, result })
 }
 
 /// Every `#[no_mangle] pub extern "C" fn` of the source, in its order.
-pub fn read(source: &str) -> Result<Vec<Function>, String> {
+pub fn read(source: &str, lengths: &Lengths) -> Result<Vec<Function>, String> {
     const HEAD: &str = "pub extern \"C\" fn ";
     let lines: Vec<&str> = source.lines().map(str::trim).collect();
     let mut functions = vec![];
@@ -103,7 +130,7 @@ pub fn read(source: &str) -> Result<Vec<Function>, String> {
         doc.reverse();
         let text: String = lines[i..].iter().map(|l| format!("{}\n", l.split("//").next().unwrap())).collect();
         let signature = text.split_once(HEAD).unwrap().1;
-        functions.push(read_signature(doc, signature).map_err(|e| format!("line {}: {e}", i + 1))?);
+        functions.push(read_signature(doc, signature, lengths).map_err(|e| format!("line {}: {e}", i + 1))?);
     }
     let marks = lines.iter().filter(|l| l.starts_with("#[no_mangle]")).count();
     if marks != functions.len() {
@@ -144,11 +171,14 @@ fn c_parameter((name, t): &(String, Type)) -> String {
 
 const HEADER_START: &str = "\
 /* The C interface of noddrefyr: encodings of tokens and their windows, in proved functions. Made by
-   `compare/run header` from crates/exports/src/lib.rt; link target/staticlib/libexports.a, which
-   `rt staticlib exports` writes.
+   `compare/run header` from the sources of crates exports and template_exports; link target/staticlib/libexports.a and
+   target/staticlib/libtemplate_exports.a, which `rt staticlib exports` and `rt staticlib template_exports` write. The second
+   holds the functions on templates, which stand at the end here.
 
    A batch is lent as two slices of uint32_t, nodes and rows, each as a pointer and its length in numbers (README.md
-   draws them): a node is 26 numbers, a row 11. The library keeps no pointer, allocates nothing, and takes any
+   draws them): a node is 26 numbers, a row 11. A special table is lent as three slices: entries of 5 numbers (id start and
+   length in the added texts, first member, number of ids, number of texts), members of 3 (id, text start and length in the
+   added texts), and the added texts. The library keeps no pointer, allocates nothing, and takes any
    numbers whatever; it needs only that each pointer is valid for its length, not null even where the length is 0,
    and that what it may write overlaps nothing else that it is lent.
 

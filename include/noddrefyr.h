@@ -1,9 +1,12 @@
 /* The C interface of noddrefyr: encodings of tokens and their windows, in proved functions. Made by
-   `compare/run header` from crates/exports/src/lib.rt; link target/staticlib/libexports.a, which
-   `rt staticlib exports` writes.
+   `compare/run header` from the sources of crates exports and template_exports; link target/staticlib/libexports.a and
+   target/staticlib/libtemplate_exports.a, which `rt staticlib exports` and `rt staticlib template_exports` write. The second
+   holds the functions on templates, which stand at the end here.
 
    A batch is lent as two slices of uint32_t, nodes and rows, each as a pointer and its length in numbers (README.md
-   draws them): a node is 26 numbers, a row 11. The library keeps no pointer, allocates nothing, and takes any
+   draws them): a node is 26 numbers, a row 11. A special table is lent as three slices: entries of 5 numbers (id start and
+   length in the added texts, first member, number of ids, number of texts), members of 3 (id, text start and length in the
+   added texts), and the added texts. The library keeps no pointer, allocates nothing, and takes any
    numbers whatever; it needs only that each pointer is valid for its length, not null even where the length is 0,
    and that what it may write overlaps nothing else that it is lent.
 
@@ -220,6 +223,35 @@ uint32_t noddrefyr_pad_encodings(
     uint32_t *out_nodes, size_t out_nodes_len,
     uint32_t *out_rows, size_t out_rows_len,
     size_t written[2]);
+
+/* The pieces of a template text, kind (0 A, 1 B, 2 special), type, id start and id length in the text of each, spare ones zero,
+   and their number. Refused with 8, 7. */
+uint32_t noddrefyr_read_template(
+    const uint8_t *text, size_t text_len,
+    uint32_t pieces[256],
+    size_t *count);
+
+/* Whether a template for one encoding and one for a pair can be used with a special table. One that is not set is `$0`, or
+   `$A:0 $B:1`, whatever its text. Refused with 15, 12, then 8 and 7 for the single, 8 and 7 for the pair, 9, 10. */
+uint32_t noddrefyr_validate(
+    bool single_set,
+    const uint8_t *single, size_t single_len,
+    bool pair_set,
+    const uint8_t *pair, size_t pair_len,
+    const uint32_t *entries, size_t entries_len,
+    const uint32_t *members, size_t members_len,
+    const uint8_t *added, size_t added_len);
+
+/* How many tokens a template adds, where an unknown special id adds none; one that is not set is `$0`, or `$A:0 $B:1` if it is
+   the pair's. Refused with 15, 12, 8, 7. */
+uint32_t noddrefyr_count_added(
+    bool set,
+    const uint8_t *text, size_t text_len,
+    bool is_pair,
+    const uint32_t *entries, size_t entries_len,
+    const uint32_t *members, size_t members_len,
+    const uint8_t *added, size_t added_len,
+    uint64_t *count);
 
 #ifdef __cplusplus
 }

@@ -227,3 +227,69 @@ pub fn text(b: &Batch, row: u32, tokens: &[u8], added: &[u8]) -> Answer {
     };
     (refusal, answer)
 }
+
+/// What reading a template gives: the refusal, the number of pieces and the numbers of all that there is room for.
+#[derive(Clone, PartialEq, Eq, Debug)]
+pub struct Template {
+    pub refusal: u32,
+    pub count: usize,
+    pub pieces: Vec<u32>,
+}
+
+/// The numbers of the pieces that a template may have.
+pub const PIECES: usize = 256;
+
+pub fn read_template(text: &[u8]) -> Template {
+    let mut pieces = vec![BEFORE; PIECES];
+    let (refusal, count) = read_template_into(text, &mut pieces);
+    Template { refusal, count, pieces }
+}
+
+/// The same, in pieces that can be lent again and again.
+pub fn read_template_into(text: &[u8], pieces: &mut [u32]) -> (u32, usize) {
+    assert_eq!(pieces.len(), PIECES);
+    let mut count = BEFORE as usize;
+    let refusal = unsafe { bindings::noddrefyr_read_template(text.as_ptr(), text.len(), pieces.as_mut_ptr(), &mut count) };
+    (refusal, count)
+}
+
+/// A special table with the pool of its texts.
+#[derive(Clone, Copy, Debug)]
+pub struct Table<'a> {
+    pub entries: &'a [u32],
+    pub members: &'a [u32],
+    pub added: &'a [u8],
+}
+
+/// The template for one encoding and the one for a pair, each set or not.
+#[derive(Clone, Copy, Debug)]
+pub struct Templates<'a> {
+    pub single_set: bool,
+    pub single: &'a [u8],
+    pub pair_set: bool,
+    pub pair: &'a [u8],
+}
+
+/// The refusal, 0 for none.
+pub fn validate(templates: Templates, table: Table) -> u32 {
+    let (single, pair) = (templates.single, templates.pair);
+    let Table { entries, members, added } = table;
+    unsafe {
+        bindings::noddrefyr_validate(
+            templates.single_set, single.as_ptr(), single.len(), templates.pair_set, pair.as_ptr(), pair.len(),
+            entries.as_ptr(), entries.len(), members.as_ptr(), members.len(), added.as_ptr(), added.len(),
+        )
+    }
+}
+
+/// The refusal, 0 for none, and the number of tokens that a template adds.
+pub fn count_added(set: bool, text: &[u8], is_pair: bool, table: Table) -> (u32, u64) {
+    let Table { entries, members, added } = table;
+    let mut count = BEFORE as u64;
+    let refusal = unsafe {
+        bindings::noddrefyr_count_added(
+            set, text.as_ptr(), text.len(), is_pair, entries.as_ptr(), entries.len(), members.as_ptr(), members.len(), added.as_ptr(), added.len(), &mut count,
+        )
+    };
+    (refusal, count)
+}
