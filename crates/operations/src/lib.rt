@@ -1,13 +1,17 @@
-// One stored case, replayed. A case begins with its operation's number and two lists: the nodes and the rows of a batch, or
-// the tokens and nothing. The operations are in three crates by what they give: `replay_lookups` a few numbers,
-// `replay_texts` a text, `replay_writing` an output, which is compared here.
+// One stored case, replayed. A case begins with its operation's number and two lists: the nodes and the rows of a batch, the
+// entries and the members of a special table, or the tokens or a template's text and nothing. The operations are in four
+// crates by what they give: `replay_lookups` a few numbers, `replay_texts` a text, `replay_templates` what is said of a
+// template, `replay_writing` an output, which is compared here.
 //
-// To add an operation: its function in one of the three, as is said there; its number in `replay_batch`, unless it is a
+// To add an operation: its function in one of the four, as is said there; its number in `replay_batch`, unless it is a
 // lookup; and its cases, which the comparison with the Rust makes.
 ghost use mathlib.Core.Path.{_≡_};
 ghost use mathlib.Core.Bool.{true};
 ghost use Rattle.operations.specs.Comments.{skips};
 use cases::Outcome;
+use replay_templates::COUNT_ADDED;
+use replay_templates::READ_TEMPLATE;
+use replay_templates::VALIDATE;
 use replay_texts::SPAN;
 use replay_texts::TEXT;
 use replay_texts::TEXT_PART;
@@ -74,6 +78,9 @@ fn replay(case: &[u32]) -> Outcome {
 fn replay_batch(operation: u32, nodes: &[u32], rows: &[u32], rest: &[u32]) -> Outcome {
     match operation {
         TEXT | SPAN | TEXT_PART => replay_texts::replay(operation, nodes, rows, rest),
+        READ_TEMPLATE | VALIDATE | COUNT_ADDED => {
+            replay_templates::replay(operation, nodes, rows, rest)
+        }
         GET_SEQUENCE_IDS
         | FROM_TOKENS
         | SET_SEQUENCE_ID
