@@ -26,7 +26,7 @@ use Rattle.truncation.proofs.Fineness.{truncated-fine}
 use Rattle.truncate_pair.specs.Size.{together, Small}
 use Rattle.truncate_pair.specs.TruncatePair.{cutBothOutcome}
 use Rattle.truncate_pair.specs.Writing.{Two, AskTwo, Pair}
-use Rattle.truncate_pair.proofs.Pair.{pair-here, few-held, second-here}
+use Rattle.extent.proofs.Pair.{pair-here, few-held, second-here}
 use Rattle.truncate_pair.proofs.Sizes.{together-size, after-small}
 use Rattle.truncate_pair.proofs.Placing.{first-size}
 

@@ -20,7 +20,7 @@ use Rattle.truncation.specs.Writing.{Ask}
 use Rattle.truncation.proofs.Sizes.{truncated-size}
 use Rattle.truncation.proofs.Fineness.{truncated-fine}
 use Rattle.truncate_pair.specs.Writing.{Two, AskTwo}
-use Rattle.truncate_pair.proofs.Pair.{second-here}
+use Rattle.extent.proofs.Pair.{second-here}
 
 -- ---- What each cut asks
 

@@ -20,7 +20,7 @@ use Rattle.truncation.specs.Truncate.{strideRefused}
 use Rattle.truncation.proofs.Deciding.{here-fitting}
 use Rattle.truncate_pair.specs.Size.{together}
 use Rattle.truncate_pair.specs.Writing.{Two, Pair}
-use Rattle.truncate_pair.proofs.Pair.{first-here, few-held}
+use Rattle.extent.proofs.Pair.{first-here, few-held}
 use Rattle.truncate_pair.proofs.Deciding.{here-small, other-here, other-rows, first-refused, second-refused, both-two, both-no-room, both-asks, both-writes}
 use Rattle.truncate_pair.proofs.cut_two.Statement.{statement}
 use Rattle.truncate_pair.proofs.cut_two.Tie as tie

@@ -19,7 +19,8 @@ use Rattle.cut.specs.declared.Second.{Second}
 use Rattle.extent.specs.Size.{sizeOf}
 use Rattle.extent.proofs.Stands.{here-stands}
 use Rattle.truncate_pair.specs.TruncatePair.{rowsOfSecond}
-use Rattle.truncate_pair.proofs.Pair.{first-here, few-held, second-at}
+use Rattle.extent.proofs.Pair.{first-here, few-held}
+use Rattle.truncate_pair.proofs.Pair.{second-at}
 use Rattle.truncate_pair.proofs.Keeping.{outcome-malformed, kept-refused, kept-alone, kept-both}
 use Rattle.truncate_pair.proofs.truncate_encodings.Statement.{statement}
 use Rattle.truncate_pair.proofs.truncate_encodings.Tie as tie

@@ -2,7 +2,7 @@
 use mathlib.Core.Path.{_∙_}
 use native.Mathlib.Omega.{arith}
 use Rattle.record.proofs.Here.{here-first}
-use Rattle.truncate_pair.proofs.Pair.{few-held, second-here}
+use Rattle.extent.proofs.Pair.{few-held, second-here}
 use Rattle.truncate_pair.proofs.Placing.{first-asks, second-asks, two-put}
 use Rattle.truncate_pair.proofs.write_two.Statement.{statement}
 use Rattle.truncate_pair.proofs.write_two.Tie as tie
