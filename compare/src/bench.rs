@@ -54,6 +54,11 @@ pub fn once<I: Clone, O>(input: &I, mut f: impl FnMut(I) -> O) -> f64 {
     median((0..SAMPLES).map(|_| one(&mut f)).collect())
 }
 
+/// Median time in ns of a call that lasts long enough to be timed alone, over so many calls.
+pub fn few<O>(calls: usize, mut f: impl FnMut() -> O) -> f64 {
+    median((0..calls).map(|_| sample(1, &mut f)).collect())
+}
+
 /// One line: what was timed, ours, the other's name and time, and the ratio.
 pub fn row(what: &str, ours: f64, other: &str, time: f64, note: &str) {
     println!("{what:<40} ours {ours:>10.0} ns  {other:<16} {time:>10.0} ns  ratio {:>6.2}  {note}", ours / time);

@@ -1,8 +1,11 @@
 //! Runs the proved library and the Rust on the same inputs. See ../run for the commands.
 //! A new operation is a module with an `Operation`, a line in `operations` and a safe wrapper in `ours`.
+//! A program of the repository is a module with a `Program`, and stands in `PROGRAMS`.
 mod bench;
 mod check_batch;
 mod inputs;
+mod lister;
+mod listing;
 mod lookups;
 mod made;
 mod making;
@@ -50,19 +53,39 @@ fn operations() -> Vec<Operation> {
 
 const REPLAYED: [Replayed; 1] = [texts::TEXT_PART];
 
+/// A program that is run beside an independent one. What it prints of its own stored input is held by `rt check`.
+pub struct Program {
+    pub name: &'static str,
+    pub compare: fn(&mut Tally, &mut Rng, count: u64),
+    pub bench: fn(),
+}
+
+const PROGRAMS: [Program; 1] = [lister::PROGRAM];
+
+/// All that can be compared and timed: the operations, then the programs.
+fn all() -> Vec<Program> {
+    let operations = operations().into_iter().map(|o| Program { name: o.name, compare: o.compare, bench: o.bench });
+    operations.chain(PROGRAMS).collect()
+}
+
 const SEED: u64 = 1;
 const COUNT: u64 = 1_000;
 
-/// All operations and the files made of them, or only the operation that is named.
+/// All of them and the files made of the operations, or only the one that is named.
 fn compare(seed: u64, count: u64, only: Option<&str>) -> bool {
     println!("seed {seed}, {count} random inputs per operation, beside the exhaustive ones");
     let mut good = only.is_some() || made::all_up_to_date(&operations(), &REPLAYED);
-    for operation in operations().into_iter().filter(|o| only.is_none_or(|name| name == o.name)) {
+    for compared in all().into_iter().filter(|o| only.is_none_or(|name| name == o.name)) {
         let mut tally = Tally::default();
-        (operation.compare)(&mut tally, &mut Rng(seed), count);
-        good &= tally.report(operation.name);
+        (compared.compare)(&mut tally, &mut Rng(seed), count);
+        good &= tally.report(compared.name);
     }
     good
+}
+
+fn times(only: Option<&str>) -> bool {
+    all().iter().filter(|o| only.is_none_or(|name| name == o.name)).for_each(|o| (o.bench)());
+    true
 }
 
 fn main() -> ExitCode {
@@ -70,11 +93,9 @@ fn main() -> ExitCode {
     let words: Vec<&str> = words.iter().map(String::as_str).collect();
     let good = match words[..] {
         [] => compare(SEED, COUNT, None),
-        ["bench"] => {
-            operations().iter().for_each(|o| (o.bench)());
-            true
-        }
-        [name] if operations().iter().any(|o| o.name == name) => compare(SEED, COUNT, Some(name)),
+        ["bench"] => times(None),
+        ["bench", name] if all().iter().any(|o| o.name == name) => times(Some(name)),
+        [name] if all().iter().any(|o| o.name == name) => compare(SEED, COUNT, Some(name)),
         ["header"] => made::header().write(),
         ["store"] => made::stored_cases(&operations(), &REPLAYED).iter().all(made::Made::write),
         [seed, count] => match (seed.parse(), count.parse()) {
@@ -87,6 +108,6 @@ fn main() -> ExitCode {
 }
 
 fn usage() -> bool {
-    eprintln!("usage: compare/run [SEED COUNT | OPERATION | bench | header | store]");
+    eprintln!("usage: compare/run [SEED COUNT | OPERATION | bench [OPERATION] | header | store]");
     false
 }

@@ -98,7 +98,7 @@ pub struct Tally {
 
 impl Tally {
     /// Counts one case. `describe` tells what differs and the case as a line; it is asked for the first difference.
-    pub fn case(&mut self, same: bool, describe: impl FnOnce() -> (String, Line)) {
+    pub fn case<L: fmt::Display>(&mut self, same: bool, describe: impl FnOnce() -> (String, L)) {
         self.cases += 1;
         if !same {
             self.differences += 1;
