@@ -15,9 +15,14 @@ mod outputs;
 mod padding;
 mod pairs;
 mod sequence_column;
+mod tables;
 mod tally;
+mod template_inputs;
+mod template_text;
+mod templates;
 mod texts;
 mod truncating;
+mod validating;
 mod wellformed;
 
 use std::process::ExitCode;
@@ -48,6 +53,7 @@ fn operations() -> Vec<Operation> {
     all.extend(lookups::OPERATIONS);
     all.extend([sequence_column::OPERATION, making::FROM_TOKENS, making::SET_SEQUENCE_ID, texts::TEXT, texts::SPAN, truncating::OPERATION]);
     all.extend([merging::MERGE_WITH, merging::MERGE, pairs::OPERATION, padding::PAD, padding::PAD_ENCODINGS]);
+    all.extend([templates::OPERATION, validating::VALIDATE, validating::COUNT_ADDED]);
     all
 }
 

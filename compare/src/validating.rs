@@ -1,0 +1,280 @@
+//! validate and count_added against the Rust's builder: small tables with small templates, and every refusal beside every
+//! other.
+use crate::ours::{self, Templates, BEFORE};
+use crate::tables::{self, Table};
+use crate::tally::{Line, Stored, Tally};
+use crate::template_inputs::{all_faults, all_of, random_text, random_texts, singles, Texts};
+use crate::template_text::{self, MAX_BYTES, MAX_PARTS};
+use crate::templates::bytes;
+use crate::{bench, Operation};
+use std::hint::black_box;
+use tokenizers::processors::template::{probe, SpecialToken, Template, TemplateProcessing, TemplateProcessingBuilder, Tokens};
+use tokenizers::rng::Rng;
+
+pub const VALIDATE: Operation = Operation {
+    name: "validate",
+    format: "24 entries members single-set pair-set single pair added refusal (texts and pool as lists of bytes)",
+    compare: compare_validate,
+    store: store_validate,
+    bench: time_validate,
+};
+
+pub const COUNT_ADDED: Operation = Operation {
+    name: "count_added",
+    format: "25 entries members set is-pair text added refusal count (text and pool as lists of bytes)",
+    compare: compare_count,
+    store: store_count,
+    bench: time_count,
+};
+
+/// Tables of every fault and none: good ones, none, 15, 12, both.
+fn faulty_tables() -> Vec<Table> {
+    let good = tables::usual();
+    let mut short = good.clone();
+    short.members.pop();
+    let mut differ = good.clone();
+    differ.entries[4] += 1;
+    let mut both = differ.clone();
+    both.entries[5] = u32::MAX;
+    vec![good, Table::default(), short, differ, both]
+}
+
+// ---- validate
+
+/// The Rust's builder, with a template only where one is set.
+fn builder(single: Option<Template>, pair: Option<Template>, tokens: Tokens) -> TemplateProcessingBuilder {
+    let mut builder = TemplateProcessing::builder();
+    builder.special_tokens(tokens);
+    if let Some(template) = single {
+        builder.single(template);
+    }
+    if let Some(template) = pair {
+        builder.pair(template);
+    }
+    builder
+}
+
+/// The table, then the single, then the pair, then what the Rust says.
+fn refusal(templates: Templates, table: ours::Table) -> Result<(), u32> {
+    let read = |set: bool, text| if set { template_text::read(text).map(|(_, template)| Some(template)) } else { Ok(None) };
+    let tokens = tables::tokens(table)?;
+    let single = read(templates.single_set, templates.single)?;
+    let pair = read(templates.pair_set, templates.pair)?;
+    probe::validate(&builder(single, pair, tokens)).map_err(|e| match &e[..] {
+        "Template for `pair` must use both sequences" => 9,
+        e if e.starts_with("Missing SpecialToken(s)") => 10,
+        e => unreachable!("an error that validate does not have: {e}"),
+    })
+}
+
+fn validate_line(templates: Templates, table: ours::Table, want: u32) -> Line {
+    let line = Line::of(24).list(table.entries).list(table.members).number(templates.single_set as u32).number(templates.pair_set as u32);
+    line.list(&bytes(templates.single)).list(&bytes(templates.pair)).list(&bytes(table.added)).answer(want, &[])
+}
+
+fn case_validate(t: &mut Tally, texts: &Texts, table: &Table) {
+    let (templates, table) = (texts.lent(), table.lent());
+    let got = ours::validate(templates, table);
+    let want = refusal(templates, table).err().unwrap_or(0);
+    t.case(got == want, || (format!("ours gave refusal {got}"), validate_line(templates, table, want)));
+}
+
+/// Both set, with these texts.
+fn both(single: &[u8], pair: &[u8]) -> Texts {
+    Texts { single: Some(single.to_vec()), pair: Some(pair.to_vec()), unset: b"" }
+}
+
+const PARTS: [&str; 8] = ["$A", "$B", "$0:2", "a", "b:1", "", "ab", "$C"];
+
+fn compare_validate(t: &mut Tally, r: &mut Rng, count: u64) {
+    for texts in all_faults() {
+        faulty_tables().iter().for_each(|table| case_validate(t, &texts, table));
+    }
+    tables::all_small(&mut |table| {
+        for (single, pair) in [("a", "$A $B"), ("", "$A b $B"), ("$A ab", "$A $B a:1"), ("$C", "$A $B"), ("b ba", "$A")] {
+            case_validate(t, &both(single.as_bytes(), pair.as_bytes()), table);
+        }
+    });
+    let mut few = tables::usual();
+    few.added = b"ab[SEP]xy  bb".to_vec();
+    few.entries = vec![0, 1, 0, 1, 1, 1, 1, 0, 2, 2, 4, 0, 0, 0, 0];
+    few.members.truncate(2 * tables::MEMBER);
+    for (single, pair) in all_of(&PARTS, 2).iter().flat_map(|single| all_of(&PARTS, 3).into_iter().map(move |pair| (single, pair))) {
+        case_validate(t, &both(single, &pair), &few);
+    }
+    for _ in 0..50 * count {
+        let texts = random_texts(r, 4, 20);
+        let mut table = tables::random(r);
+        case_validate(t, &texts, &table);
+        case_validate(t, &random_texts(r, 70, 1_000), &table);
+        for _ in 0..2 {
+            tables::damage(r, &mut table);
+            case_validate(t, &texts, &table);
+        }
+    }
+}
+
+/// Random short templates with a table, good or damaged, of which this holds.
+fn found(r: &mut Rng, wanted: impl Fn(&Texts, &Table) -> bool) -> (Texts, Table) {
+    loop {
+        let (texts, mut table) = (random_texts(r, 3, 20), tables::random(r));
+        if r.below(2) == 0 {
+            tables::damage(r, &mut table);
+        }
+        let is_short = texts.single.iter().chain(&texts.pair).all(|text| text.len() < 100);
+        if is_short && wanted(&texts, &table) {
+            return (texts, table);
+        }
+    }
+}
+
+fn store_validate(r: &mut Rng) -> Vec<Stored> {
+    let mut out = vec![];
+    let mut keep = |what: &str, texts: &Texts, table: &Table| {
+        let (templates, table) = (texts.lent(), table.lent());
+        let want = refusal(templates, table).err().unwrap_or(0);
+        out.push(Stored { what: format!("{what}: {want}"), line: validate_line(templates, table, want) });
+    };
+    for (single, pair) in [(SINGLE, PAIR), ("", "$B $A"), ("x", "$A $B"), ("$A", "[CLS]"), ("$A:", "$B")] {
+        keep("both set", &both(single.as_bytes(), pair.as_bytes()), &tables::usual());
+        faulty_tables()[1..].iter().take(2).for_each(|table| keep("another table", &both(single.as_bytes(), pair.as_bytes()), table));
+    }
+    keep("none set", &Texts { single: None, pair: None, unset: b"$C" }, &tables::usual());
+    keep("only the single set", &Texts { pair: None, ..both(b"x", b"") }, &Table::default());
+    keep("a text too long", &both(&vec![b'a'; MAX_BYTES + 1], b"$C"), &tables::usual());
+    keep("too many parts", &both(b"$A", &b"$B ".repeat(MAX_PARTS)), &tables::usual());
+    for want in [0, 7, 9, 10, 12, 15].repeat(3) {
+        let (texts, table) = found(r, |texts, table| refusal(texts.lent(), table.lent()).err().unwrap_or(0) == want);
+        keep("random", &texts, &table);
+    }
+    out
+}
+
+const SINGLE: &str = "[CLS] $A [SEP]";
+const PAIR: &str = "[CLS] $A [SEP] $B:1 [SEP]:1";
+
+/// So many entries of one token each, the ids `[CLS]`, `[SEP]`, then others; and the same for the Rust.
+fn table_of(entries: usize) -> (Table, Vec<SpecialToken>) {
+    let ids: Vec<String> = ["[CLS]", "[SEP]"].into_iter().map(String::from).chain((2..entries).map(|i| format!("[x{i:02}]"))).collect();
+    let (mut table, mut rust) = (Table::default(), vec![]);
+    for (i, id) in ids.iter().enumerate() {
+        let (start, length) = (table.added.len() as u32, id.len() as u32);
+        table.entries.extend([start, length, i as u32, 1, 1]);
+        table.members.extend([i as u32, start, length]);
+        table.added.extend(id.bytes());
+        rust.push(SpecialToken::from((id.clone(), i as u32)));
+    }
+    (table, rust)
+}
+
+fn time_validate() {
+    let long = vec!["[SEP]:1 $A $B:1 [CLS]"; MAX_PARTS / 4].join(" ");
+    for (what, single, pair, entries) in [("3 and 5 parts, 2 entries", SINGLE, PAIR, 2), ("64 and 64 parts, 64 entries", &long, &long, 64)] {
+        let (table, rust) = table_of(entries);
+        let texts = both(single.as_bytes(), pair.as_bytes());
+        let ours = || assert_eq!(ours::validate(black_box(texts.lent()), table.lent()), 0);
+        let build = || {
+            let mut builder = TemplateProcessing::builder();
+            builder.try_single(black_box(single)).unwrap().try_pair(black_box(pair)).unwrap().special_tokens(rust.clone());
+            builder.build().unwrap()
+        };
+        let (ours, built) = bench::both(ours, build);
+        bench::row(&format!("validate, {what}"), ours, "Rust", built, "texts read, templates kept, added tokens counted");
+        let mut builder = TemplateProcessing::builder();
+        builder.try_single(single).unwrap().try_pair(pair).unwrap().special_tokens(rust.clone());
+        let alone = bench::alone(|| probe::validate(black_box(&builder)).unwrap());
+        bench::row(&format!("validate, {what}"), ours, "Rust", alone, "once all is read and kept; ours reads in each call");
+    }
+}
+
+// ---- count_added
+
+/// What a template adds, by the Rust; that of one that is not set is the builder's own.
+fn added(template: Option<&[u8]>, is_pair: bool, table: ours::Table) -> Result<u64, u32> {
+    let tokens = tables::tokens(table)?;
+    let Some(text) = template else {
+        let built = builder(None, None, tokens).build().expect("valid");
+        return Ok(if is_pair { built.get_added_pair() } else { built.get_added_single() } as u64);
+    };
+    let (_, template) = template_text::read(text)?;
+    Ok(probe::count_added(&template, Some(&tokens)) as u64)
+}
+
+/// Stands in the place of a text that is not set, and must not matter.
+const UNSET: &[u8] = b"[CLS] $C";
+
+fn count_line(text: &Option<Vec<u8>>, is_pair: bool, table: ours::Table, want: &Result<u64, u32>) -> Line {
+    let line = Line::of(25).list(table.entries).list(table.members).number(text.is_some() as u32).number(is_pair as u32);
+    let line = line.list(&bytes(text.as_deref().unwrap_or(UNSET))).list(&bytes(table.added));
+    line.answer(want.err().unwrap_or(0), &[want.unwrap_or(0) as u32])
+}
+
+fn case_count(t: &mut Tally, text: &Option<Vec<u8>>, table: &Table) {
+    for is_pair in [false, true] {
+        let got = ours::count_added(text.is_some(), text.as_deref().unwrap_or(UNSET), is_pair, table.lent());
+        let want = added(text.as_deref(), is_pair, table.lent());
+        let same = got == want.map_or_else(|refusal| (refusal, BEFORE as u64), |count| (0, count));
+        t.case(same, || (format!("ours gave {got:?}"), count_line(text, is_pair, table.lent(), &want)));
+    }
+}
+
+fn compare_count(t: &mut Tally, r: &mut Rng, count: u64) {
+    for text in singles() {
+        faulty_tables().iter().for_each(|table| case_count(t, &text, table));
+    }
+    tables::all_small(&mut |table| {
+        for text in ["a", "", "a b ab", "$C", "b b $A b"] {
+            case_count(t, &Some(text.as_bytes().to_vec()), table);
+        }
+    });
+    for text in all_of(&PARTS, 4) {
+        case_count(t, &Some(text), &tables::usual());
+    }
+    for _ in 0..50 * count {
+        let text = (r.below(9) != 0).then(|| random_text(r, 6, 40));
+        let mut table = tables::random(r);
+        case_count(t, &text, &table);
+        case_count(t, &Some(random_text(r, 66, 1_000)), &table);
+        for _ in 0..2 {
+            tables::damage(r, &mut table);
+            case_count(t, &text, &table);
+        }
+    }
+    // as many tokens as 64 parts of 100,000 members have
+    let members = [9, 0, 1].repeat(100_000);
+    let table = Table { entries: vec![0, 1, 0, 100_000, 100_000], members, added: b"a".to_vec() };
+    case_count(t, &Some(vec!["a"; MAX_PARTS].join(" ").into_bytes()), &table);
+}
+
+fn store_count(r: &mut Rng) -> Vec<Stored> {
+    let mut out = vec![];
+    let mut keep = |text: &Option<Vec<u8>>, is_pair: bool, table: &Table| {
+        let want = added(text.as_deref(), is_pair, table.lent());
+        let what = want.map_or_else(|refusal| format!("refused with {refusal}"), |count| format!("{count} added"));
+        out.push(Stored { what, line: count_line(text, is_pair, table.lent(), &want) });
+    };
+    for (i, text) in singles().iter().enumerate().filter(|(_, text)| text.as_ref().is_none_or(|text| text.len() < 1_000)) {
+        keep(text, i % 2 == 0, &tables::usual());
+    }
+    keep(&None, true, &tables::usual());
+    faulty_tables()[1..].iter().for_each(|table| keep(&Some(b"[CLS] $A".to_vec()), false, table));
+    for i in 0..14 {
+        let (texts, table) = found(r, |texts, table| match added(texts.single.as_deref(), false, table.lent()) {
+            Ok(count) => count > i / 2,
+            Err(refusal) => i > 9 && refusal != 15,
+        });
+        keep(&texts.single, i % 2 == 0, &table);
+    }
+    out
+}
+
+fn time_count() {
+    let (table, rust) = table_of(2);
+    let tokens = Tokens::from(rust);
+    let ours = || assert_eq!(ours::count_added(true, black_box(PAIR.as_bytes()), true, table.lent()), (0, 3));
+    let (ours, rust) = bench::both(ours, || probe::count_added(&Template::try_from(black_box(PAIR)).unwrap(), Some(&tokens)));
+    bench::row("count_added, 5 parts, 2 entries", ours, "Rust", rust, "the text read in each call");
+    let template = Template::try_from(PAIR).unwrap();
+    let alone = bench::alone(|| probe::count_added(black_box(&template), Some(&tokens)));
+    bench::row("count_added, 5 parts, 2 entries", ours, "Rust", alone, "once it is read");
+}
