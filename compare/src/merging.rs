@@ -68,16 +68,16 @@ fn join_size(s: &Encoding, p: &Encoding) -> (u64, u64) {
 // ---- What is expected
 
 /// The Rust's result and whether its offsets are numbers of a batch, or the refusal.
-struct Joined {
-    encoding: Encoding,
-    fits: bool,
+pub struct Joined {
+    pub encoding: Encoding,
+    pub fits: bool,
 }
 
 fn offsets_fit(e: &Encoding) -> bool {
     e.get_offsets().iter().all(|&(start, end)| start.max(end) <= u32::MAX as usize) && e.get_overflowing().iter().all(offsets_fit)
 }
 
-fn joined(s: Encoding, p: Encoding, growing: bool) -> Result<Joined, u32> {
+pub fn joined(s: Encoding, p: Encoding, growing: bool) -> Result<Joined, u32> {
     let (nodes, rows) = join_size(&s, &p);
     if nodes > MAX_NODES as u64 || rows > MAX_ROWS as u64 {
         return Err(2);
@@ -115,7 +115,7 @@ fn expected(result: &Result<Joined, u32>, nodes: usize, rows: usize, before: u32
 }
 
 /// The same with a working store of so many numbers.
-fn expected_fold(result: &Result<Joined, u32>, sizes: [usize; 4], before: u32) -> Folded {
+pub fn expected_fold(result: &Result<Joined, u32>, sizes: [usize; 4], before: u32) -> Folded {
     let [nodes, rows, working_nodes, working_rows] = sizes;
     let without = |refusal| output(Err(refusal), nodes, rows, before);
     let working_room = result.as_ref().map_or(true, |j| has_room(std::slice::from_ref(&j.encoding), working_nodes, working_rows));
@@ -307,7 +307,7 @@ fn with_windows(rows: u32, windows: u32) -> Batch {
 
 /// The Rust's time alone, one call to a clock reading; with a copy of its operands, which it takes and ours leaves alone;
 /// and a plain copy of the result's rows.
-fn row(what: &str, ours: f64, rust: f64, kept: f64, rows: usize) {
+pub fn row(what: &str, ours: f64, rust: f64, kept: f64, rows: usize) {
     bench::row(what, ours, "Rust", rust, "which moves its operands' rows");
     bench::row(what, ours, "Rust", kept, "with a copy of its operands");
     let (from, mut to) = (vec![1u32; rows * ROW], vec![0u32; rows * ROW]);
@@ -342,10 +342,10 @@ fn fold_line(b: &Batch, growing: bool, want: &Folded) -> Line {
 }
 
 /// The numbers of each list of the working store of a stored case.
-const STORED: usize = 2_048;
+pub const STORED: usize = 2_048;
 
 /// The output and the working store, each just enough or too small.
-fn stores(result: &Result<Joined, u32>, which: usize) -> [usize; 4] {
+pub fn stores(result: &Result<Joined, u32>, which: usize) -> [usize; 4] {
     let around = around(result);
     let ((nodes, rows), (working_nodes, working_rows)) = match which {
         0..=3 => (around[which], around[1]),
@@ -354,7 +354,7 @@ fn stores(result: &Result<Joined, u32>, which: usize) -> [usize; 4] {
     [nodes, rows, working_nodes, working_rows]
 }
 
-const ALL_STORES: [usize; 8] = [0, 1, 2, 3, 4, 5, 6, 7];
+pub const ALL_STORES: [usize; 8] = [0, 1, 2, 3, 4, 5, 6, 7];
 
 fn case_fold(t: &mut Tally, b: &Batch, which: &[usize]) {
     for growing in [false, true] {

@@ -62,6 +62,32 @@ pub fn usual() -> Table {
     Table { entries: vec![0, 5, 0, 1, 1, 5, 5, 1, 1, 1, 10, 0, 2, 2, 2], members, added }
 }
 
+/// Tables of every fault and none: good ones, none, 15, 12, both.
+pub fn faulty_tables() -> Vec<Table> {
+    let good = usual();
+    let mut short = good.clone();
+    short.members.pop();
+    let mut differ = good.clone();
+    differ.entries[4] += 1;
+    let mut both = differ.clone();
+    both.entries[5] = u32::MAX;
+    vec![good, Table::default(), short, differ, both]
+}
+
+/// So many entries of one token each, the ids `[CLS]`, `[SEP]`, then others; and the same for the Rust.
+pub fn table_of(entries: usize) -> (Table, Vec<SpecialToken>) {
+    let ids: Vec<String> = ["[CLS]", "[SEP]"].into_iter().map(String::from).chain((2..entries).map(|i| format!("[x{i:02}]"))).collect();
+    let (mut table, mut rust) = (Table::default(), vec![]);
+    for (i, id) in ids.iter().enumerate() {
+        let (start, length) = (table.added.len() as u32, id.len() as u32);
+        table.entries.extend([start, length, i as u32, 1, 1]);
+        table.members.extend([i as u32, start, length]);
+        table.added.extend(id.bytes());
+        rust.push(SpecialToken::from((id.clone(), i as u32)));
+    }
+    (table, rust)
+}
+
 /// The bytes of pools and ids: few, so that ids at different places are often equal.
 pub const LETTERS: &[u8] = b"ab\xff";
 

@@ -20,6 +20,14 @@ impl Texts {
     }
 }
 
+pub const SINGLE: &str = "[CLS] $A [SEP]";
+pub const PAIR: &str = "[CLS] $A [SEP] $B:1 [SEP]:1";
+
+/// Both set, with these texts.
+pub fn both(single: &[u8], pair: &[u8]) -> Texts {
+    Texts { single: Some(single.to_vec()), pair: Some(pair.to_vec()), unset: b"" }
+}
+
 const UNSET: [&[u8]; 4] = [b"$C", b"", b"[unknown]", b"$B:7"];
 
 /// A text too long in bytes, and one of too many parts that are unreadable besides.

@@ -1,14 +1,14 @@
 //! validate and count_added against the Rust's builder: small tables with small templates, and every refusal beside every
 //! other.
 use crate::ours::{self, Templates, BEFORE};
-use crate::tables::{self, Table};
+use crate::tables::{self, faulty_tables, table_of, Table};
 use crate::tally::{Line, Stored, Tally};
-use crate::template_inputs::{all_faults, all_of, random_text, random_texts, singles, Texts};
+use crate::template_inputs::{all_faults, all_of, both, random_text, random_texts, singles, Texts, PAIR, SINGLE};
 use crate::template_text::{self, MAX_BYTES, MAX_PARTS};
 use crate::templates::bytes;
 use crate::{bench, Operation};
 use std::hint::black_box;
-use tokenizers::processors::template::{probe, SpecialToken, Template, TemplateProcessing, TemplateProcessingBuilder, Tokens};
+use tokenizers::processors::template::{probe, Template, TemplateProcessing, TemplateProcessingBuilder, Tokens};
 use tokenizers::rng::Rng;
 
 pub const VALIDATE: Operation = Operation {
@@ -26,18 +26,6 @@ pub const COUNT_ADDED: Operation = Operation {
     store: store_count,
     bench: time_count,
 };
-
-/// Tables of every fault and none: good ones, none, 15, 12, both.
-fn faulty_tables() -> Vec<Table> {
-    let good = tables::usual();
-    let mut short = good.clone();
-    short.members.pop();
-    let mut differ = good.clone();
-    differ.entries[4] += 1;
-    let mut both = differ.clone();
-    both.entries[5] = u32::MAX;
-    vec![good, Table::default(), short, differ, both]
-}
 
 // ---- validate
 
@@ -77,11 +65,6 @@ fn case_validate(t: &mut Tally, texts: &Texts, table: &Table) {
     let got = ours::validate(templates, table);
     let want = refusal(templates, table).err().unwrap_or(0);
     t.case(got == want, || (format!("ours gave refusal {got}"), validate_line(templates, table, want)));
-}
-
-/// Both set, with these texts.
-fn both(single: &[u8], pair: &[u8]) -> Texts {
-    Texts { single: Some(single.to_vec()), pair: Some(pair.to_vec()), unset: b"" }
 }
 
 const PARTS: [&str; 8] = ["$A", "$B", "$0:2", "a", "b:1", "", "ab", "$C"];
@@ -148,23 +131,6 @@ fn store_validate(r: &mut Rng) -> Vec<Stored> {
         keep("random", &texts, &table);
     }
     out
-}
-
-const SINGLE: &str = "[CLS] $A [SEP]";
-const PAIR: &str = "[CLS] $A [SEP] $B:1 [SEP]:1";
-
-/// So many entries of one token each, the ids `[CLS]`, `[SEP]`, then others; and the same for the Rust.
-fn table_of(entries: usize) -> (Table, Vec<SpecialToken>) {
-    let ids: Vec<String> = ["[CLS]", "[SEP]"].into_iter().map(String::from).chain((2..entries).map(|i| format!("[x{i:02}]"))).collect();
-    let (mut table, mut rust) = (Table::default(), vec![]);
-    for (i, id) in ids.iter().enumerate() {
-        let (start, length) = (table.added.len() as u32, id.len() as u32);
-        table.entries.extend([start, length, i as u32, 1, 1]);
-        table.members.extend([i as u32, start, length]);
-        table.added.extend(id.bytes());
-        rust.push(SpecialToken::from((id.clone(), i as u32)));
-    }
-    (table, rust)
 }
 
 fn time_validate() {
