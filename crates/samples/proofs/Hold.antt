@@ -14,8 +14,13 @@ use Rattle.cut.specs.Lengths.{keptBoth}
 use Rattle.truncation.specs.Truncate.{truncated, cutOutcome}
 use Rattle.merge.specs.Join.{join, withEach, eachWith}
 use Rattle.merge.specs.Samples.{lettered, letter, sampleS, sampleP, sampleQ, spelled, spelledWindows}
+use Rattle.lines.specs.Decimal.{decimalAfter}
+use Rattle.parts.specs.Split.{split}
+use Rattle.pieces.specs.Number.{afterSign, readNumber}
+use Rattle.pieces.specs.Piece.{same, sequenceOf, named, withType, readPart}
+use Rattle.template.specs.Template.{readParts, readTemplate}
 use Rattle.samples.specs.Samples.{samples, Holds}
 
 pub hold : All Holds samples
-unfolding flatMap windowsOf rightFrom leftFrom keptBoth truncated cutOutcome inRoom fitsOk flatNodes flatRows rowNumbers rangeNumbers join withEach eachWith lettered letter sampleS sampleP sampleQ spelled spelledWindows firstFrom lastFrom until sequenceRange present nSequences tokenToSequence sequenceAt column getSequenceIds wordRows wordToTokens
-hold = (refl, (refl, (refl, (refl, (refl, (refl, (refl, (refl, (refl, (refl, (refl, (refl, (refl, (refl, (refl, (refl, (refl, (refl, (refl, (refl, (refl, (refl, tt))))))))))))))))))))))
+unfolding flatMap windowsOf rightFrom leftFrom keptBoth truncated cutOutcome inRoom fitsOk flatNodes flatRows rowNumbers rangeNumbers join withEach eachWith lettered letter sampleS sampleP sampleQ spelled spelledWindows firstFrom lastFrom until sequenceRange present nSequences tokenToSequence sequenceAt column getSequenceIds wordRows wordToTokens split decimalAfter afterSign readNumber same sequenceOf named withType readPart readParts readTemplate
+hold = (refl, (refl, (refl, (refl, (refl, (refl, (refl, (refl, (refl, (refl, (refl, (refl, (refl, (refl, (refl, (refl, (refl, (refl, (refl, (refl, (refl, (refl, (refl, (refl, (refl, (refl, (refl, tt)))))))))))))))))))))))))))

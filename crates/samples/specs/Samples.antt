@@ -1,4 +1,4 @@
--- Document 01's starred samples: one list, over the definitions that the operations promise.
+-- Document 01's starred samples, all of them: one list, over the definitions that the operations promise.
 -- Assumes nothing: these are definitions. That every entry holds is `hold` of proofs/Hold.
 use mathlib.Core.Path.{_≡_}
 use mathlib.Core.Option.{Option, none as nothing, some}
@@ -24,6 +24,7 @@ use Rattle.cut.specs.declared.Kept.{Kept}
 use Rattle.windows.specs.Made.{plain}
 use Rattle.truncation.specs.Truncate.{truncated, cutOutcome}
 use Rattle.merge.specs.Join.{join}
+use Rattle.template.specs.Template.{readTemplate, readingNumbers}
 use Rattle.merge.specs.Samples.{sampleS, sampleP, sampleQ, spelledWindows}
 
 -- What a definition says of an input, as numbers, and what the sample says.
@@ -141,8 +142,24 @@ pairSamples =
     ∷ sample (keptNumbers (keptLengths 2 (Rows 10) 7 LongestFirst)) (0 ∷ 2 ∷ 5 ∷ [])
     ∷ []
 
+-- the refusal's number or 0, then kind, type, id start and id length of each piece
+abbrev pub reading : List ℕ → List ℕ
+reading text = readingNumbers (readTemplate text)
+
+abbrev pub templateSamples : List Sample
+templateSamples =
+    -- "`$+7` A type 7"
+    sample (reading (36 ∷ 43 ∷ 55 ∷ [])) (0 ∷ 0 ∷ 7 ∷ 0 ∷ 0 ∷ [])
+    -- "`:1` empty special id, type 1"
+    ∷ sample (reading (58 ∷ 49 ∷ [])) (0 ∷ 2 ∷ 1 ∷ 0 ∷ 0 ∷ [])
+    -- "`$C`, `a:b:1`, `$4294967296` give 7"
+    ∷ sample (reading (36 ∷ 67 ∷ [])) (7 ∷ [])
+    ∷ sample (reading (97 ∷ 58 ∷ 98 ∷ 58 ∷ 49 ∷ [])) (7 ∷ [])
+    ∷ sample (reading (36 ∷ 52 ∷ 50 ∷ 57 ∷ 52 ∷ 57 ∷ 54 ∷ 55 ∷ 50 ∷ 57 ∷ 54 ∷ [])) (7 ∷ [])
+    ∷ []
+
 abbrev pub samples : List Sample
-samples = lookupSamples ++ (cutSamples ++ (pairSamples ++ (joinSamples false ++ joinSamples true)))
+samples = lookupSamples ++ (cutSamples ++ (pairSamples ++ (joinSamples false ++ (joinSamples true ++ templateSamples))))
 
 -- What is claimed of each entry.
 abbrev pub Holds : Sample → Type 0

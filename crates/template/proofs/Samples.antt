@@ -1,4 +1,4 @@
--- Document 01's starred samples on templates, and worked examples beside them: lists with one claim over their entries.
+-- Worked examples of reading templates, a list with one claim over its entries; document 01's own stand in crate samples.
 -- Assumes nothing.
 use mathlib.Core.Path.{_≡_, refl}
 use Prim.Native.Nat.{ℕ}
@@ -21,20 +21,8 @@ pub record Sample : Type 0 where
 abbrev sample : List ℕ → List ℕ → Sample
 sample text expected = record { said = readingNumbers (readTemplate text); expected = expected }
 
-abbrev pub starred : List Sample
-starred =
-    -- "`$+7` A type 7"
-    sample (36 ∷ 43 ∷ 55 ∷ []) (0 ∷ 0 ∷ 7 ∷ 0 ∷ 0 ∷ [])
-    -- "`:1` empty special id, type 1"
-    ∷ sample (58 ∷ 49 ∷ []) (0 ∷ 2 ∷ 1 ∷ 0 ∷ 0 ∷ [])
-    -- "`$C`, `a:b:1`, `$4294967296` give 7"
-    ∷ sample (36 ∷ 67 ∷ []) (7 ∷ [])
-    ∷ sample (97 ∷ 58 ∷ 98 ∷ 58 ∷ 49 ∷ []) (7 ∷ [])
-    ∷ sample (36 ∷ 52 ∷ 50 ∷ 57 ∷ 52 ∷ 57 ∷ 54 ∷ 55 ∷ 50 ∷ 57 ∷ 54 ∷ []) (7 ∷ [])
-    ∷ []
-
-abbrev pub others : List Sample
-others =
+abbrev pub examples : List Sample
+examples =
     -- the largest type; leading zeros; a sign alone, no number, and a sign after digits are none
     sample (36 ∷ 52 ∷ 50 ∷ 57 ∷ 52 ∷ 57 ∷ 54 ∷ 55 ∷ 50 ∷ 57 ∷ 53 ∷ []) (0 ∷ 0 ∷ 4294967295 ∷ 0 ∷ 0 ∷ [])
     ∷ sample (36 ∷ 66 ∷ 58 ∷ 48 ∷ 48 ∷ 55 ∷ []) (0 ∷ 1 ∷ 7 ∷ 0 ∷ 0 ∷ [])
@@ -52,13 +40,9 @@ others =
 abbrev pub Right : Sample → Type 0
 Right s = s .said ≡ s .expected
 
-pub starred-right : All Right starred
+pub all-right : All Right examples
 unfolding split decimalAfter afterSign readNumber same sequenceOf named withType readPart readParts readTemplate flatMap
-starred-right = (refl, (refl, (refl, (refl, (refl, tt)))))
-
-pub others-right : All Right others
-unfolding split decimalAfter afterSign readNumber same sequenceOf named withType readPart readParts readTemplate flatMap
-others-right = (refl, (refl, (refl, (refl, (refl, (refl, (refl, (refl, (refl, tt)))))))))
+all-right = (refl, (refl, (refl, (refl, (refl, (refl, (refl, (refl, (refl, tt)))))))))
 
 -- `$C` and 64 spaces are 65 parts, which give 8 although one cannot be read
 pub many-parts : readTemplate (36 ∷ 67 ∷ replicate 64 32) ≡ refused TemplateTooLong
