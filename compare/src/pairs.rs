@@ -149,8 +149,20 @@ fn store(r: &mut Rng) -> Vec<Stored> {
         let (nodes, rows) = outputs_around(result.as_deref().map_err(|k| *k))[[0, 1, 0, 1, 2, 3][i as usize / 4]];
         out.push(Stored { what: format!("{cut:?}"), line: line(&b, cut, &expected(&result, nodes, rows, LENT)) });
     }
+    out.extend([0, 1].map(unstarred));
     std::panic::set_hook(hook);
     out
+}
+
+/// Document 01's sample without a star: "Max length 1, 5 and 5: stride 0 gives 0 and 1; stride 1 gives 3."
+fn unstarred(stride: u32) -> Stored {
+    let b = exact(&[(5, 0), (5, 0)]);
+    let cut = Cut { max_length: 1, stride, strategy: 0, left: false };
+    let result = result(&b, cut);
+    let lengths = result.as_ref().map(|e| e.iter().map(|e| e.get_ids().len()).collect::<Vec<_>>()).map_err(|k| *k);
+    assert_eq!(lengths, [Ok(vec![0, 1]), Err(3)][stride as usize]);
+    let (nodes, rows) = outputs_around(result.as_deref().map_err(|k| *k))[0];
+    Stored { what: format!("document 01's sample, stride {stride}"), line: line(&b, cut, &expected(&result, nodes, rows, LENT)) }
 }
 
 fn times() {
