@@ -1,0 +1,4 @@
+pub mod Specials
+pub mod Lengthened
+pub mod Lengthening
+pub mod Appending
