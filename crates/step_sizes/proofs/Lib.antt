@@ -1,0 +1,5 @@
+mod Places
+mod Alone
+mod Profiles
+mod Walked
+mod Turns
