@@ -4,10 +4,11 @@ use mathlib.Core.Path.{sym, subst, _∙_}
 use Prim.Native.Nat.{ℕ, _+_, _≤_}
 use mathlib.Core.List.{List, [], _∷_, _++_, flatMap, append-assoc, append-nil}
 use lib.ListN.{length, getD}
-use lib.Seq.{getD-append-add}
+use lib.Seq.{getD-append-add, getD-drop}
 use Rattle.record.specs.Tree.{Row, Forest, none, node, All}
 use Rattle.record.specs.Flat.{rowNumbers, flatRows}
 use Rattle.record.specs.WellFormed.{Stores}
+use Rattle.record.specs.Standing.{Here}
 use Rattle.merge.specs.Offsets.{mostOffset}
 use Rattle.merge.proofs.Offsets.{RowFits, OffsetsFit}
 
@@ -33,3 +34,7 @@ offsets-small (node r q w x) l h =
 
 pub stored-fits : {nodes rows : List ℕ} {f : Forest} → Stores nodes rows f → ((i : ℕ) → getD rows i 0 ≤ mostOffset) → OffsetsFit f
 stored-fits {nodes} {rows} {f} s h = offsets-small f [] (subst Small (sym (append-nil (flatRows f) ∙ s .rows-are)) h)
+
+-- or that stand at a place of it
+pub here-fits : {nodes rows : List ℕ} {i j : ℕ} {f : Forest} → Here nodes rows i j f → ((k : ℕ) → getD rows k 0 ≤ mostOffset) → OffsetsFit f
+here-fits {nodes} {rows} {i} {j} {f} s h = offsets-small f (s .at .rest-rows) (subst Small (s .at .is-rows) (λ k. rw (getD-drop j rows k 0) (h (j + k))))
