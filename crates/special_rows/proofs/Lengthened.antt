@@ -14,14 +14,14 @@ use Rattle.merge.proofs.Windowless.{joinAlong, join-windowless}
 use Rattle.padded.proofs.Followed.{followed}
 use Rattle.special_rows.specs.Lengthened.{lengthened}
 
-module _ (new : List Row) where
-  -- ranges that are all absent leave those of a node as they are, as the ranges of the empty encoding do
-  ranges-kept : (r : List Row) (q : List Range) → NodeFine r q → joinRanges (length r) q (replicate sequences absent) ≡ q
-  ranges-kept r q n =
-      let E : Encoding = encoding r q [] in
-      sym (join-ranges false E empty) ∙ ap (λ (E : Encoding). E .ranges) (right-unit false E (n, tt))
+-- ranges that are all absent leave those of a node as they are: so do the ranges of the empty encoding, the right unit
+ranges-kept : (r : List Row) (q : List Range) → NodeFine r q → joinRanges (length r) q (replicate sequences absent) ≡ q
+ranges-kept r q n =
+    let E : Encoding = encoding r q [] in
+    sym (join-ranges false E empty) ∙ ap (λ (E : Encoding). E .ranges) (right-unit false E (n, tt))
 
-  -- rows that do not grow stand after the others as they are
+module _ (new : List Row) where
+  -- in a join that does not grow rows stand after the others as they are
   rows-after : (r : List Row) → joinRows false r new ≡ r ++ new
   rows-after r = ap (r ++_) (moved-zeros new)
 

@@ -15,8 +15,8 @@ use Rattle.special.specs.Rows.{specialRow, membersFrom}
 abbrev pub specialRows : List ℕ → ℕ → ℕ → ℕ → List Row
 specialRows members first count t = map (specialRow t) (membersFrom members first count)
 
--- Every encoding, windows at every level included, with these rows after its own. For rows whose offsets are 0 and an
--- operand without ranges and windows this is the join of document 01's module 5 (`join-lengthens`).
+-- Every encoding, windows at every level included, with these rows after its own: what a join becomes that does not grow,
+-- if the second operand has these rows, no ranges and no windows (`join-lengthens`).
 abbrev pub lengthened : List Row → Forest → Forest
 lengthened new none = none
 lengthened new (node r q w x) = node (r ++ new) q (lengthened new w) (lengthened new x)
