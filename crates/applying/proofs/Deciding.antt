@@ -1,0 +1,81 @@
+-- What becomes of steps that are to be taken: the refusal, and the result.
+-- Assumes nothing.
+use mathlib.Core.Path.{_≡_, ap₂}
+use mathlib.Core.Bool.{true, false}
+use mathlib.Core.Option.{Option, none as nothing, some}
+use mathlib.Core.List.{List, [], _∷_, map}
+use Prim.Native.Nat.{ℕ, _≤_}
+use lib.ListN.{length, getD}
+use Rattle.record.specs.Tree.{Encoding, forest}
+use Rattle.record.specs.WellFormed.{Fine}
+use Rattle.record.specs.Standing.{Here, Put}
+use Rattle.record.specs.Outcome.{refused}
+use Rattle.record.specs.declared.Refusal.the-variants.{NoRoom}
+use Rattle.record.specs.declared.Written.the-variants.{Done}
+use Rattle.record.proofs.Outcome.{writes-done, room-lengths}
+use Rattle.merge.specs.Join.{fold}
+use Rattle.merge.specs.Offsets.{mostOffset}
+use Rattle.merge.specs.Outcomes.{foldInto}
+use Rattle.merge.proofs.Folds.{fold-fine}
+use Rattle.merge.proofs.Outcomes.{fold-no-room, fold-done}
+use Rattle.profile.specs.Stored.{Stands}
+use Rattle.joint.specs.declared.Spot.{Spot}
+use Rattle.merging.specs.declared.Size.{Size}
+use Rattle.merging.specs.Sizes.{roomy, Sizes}
+use Rattle.merging.specs.Working.{WritesWith, Zeroed}
+use Rattle.merging.proofs.Sizes.{roomy-takes, roomy-room, not-roomy}
+use Rattle.merging.proofs.Working.{with-done}
+use Rattle.steps.specs.declared.Step.{Step}
+use Rattle.steps.specs.Steps.{stepEncoding}
+use Rattle.step_sizes.specs.Sizes.{SecondStands, StepsOf}
+use Rattle.applying.specs.Applying.{SecondHere, StepsHere}
+use Rattle.applying.specs.Taking.{Ready}
+use Rattle.applying.proofs.Encodings.{steps-fine, steps-fit}
+
+-- ---- What is measured
+
+here-stands : {nodes rows : List ℕ} {i j : ℕ} {E : Encoding} → Here nodes rows i j (forest (E ∷ [])) → Stands nodes i E
+here-stands h = record { rest = h .at .rest; is = h .at .is; well = h .well }
+
+module _ {nodes rows : List ℕ} {s : Spot} {members numbers : List ℕ} {count : ℕ} {E : Encoding} {second : Option Encoding} {steps : List Step} (h : StepsHere nodes rows s members numbers count E second steps) where
+  pub steps-of : StepsOf nodes (s .node) numbers count members E second steps
+  steps-of =
+      record {
+        first-stands = here-stands (h .inputs .first-here);
+        second-stands = go second (h .inputs .second-here);
+        numbered = h .numbered;
+        counted = h .counted;
+        few = h .few;
+        fine = h .fine;
+      }
+    where
+      go : (second : Option Encoding) → SecondHere nodes rows s second → SecondStands nodes (s .node) second
+      go nothing k = k
+      go (some F) k = here-stands k
+
+  -- ---- What is decided
+
+  abbrev all : List Encoding
+  all = map (stepEncoding members E second) steps
+
+  module _ (out out′ working working′ : List ℕ) {size : Size} (sized : Sizes (fold false all) size) where
+    pub outcome-no-room : roomy size (length out) (length out′) ≡ false → foldInto false all out out′ working working′ ≡ refused NoRoom
+    outcome-no-room e = fold-no-room false out out′ working working′ all (λ r _. not-roomy sized out out′ e r)
+
+    pub outcome-no-working : roomy size (length working) (length working′) ≡ false → foldInto false all out out′ working working′ ≡ refused NoRoom
+    outcome-no-working e = fold-no-room false out out′ working working′ all (λ _ r. not-roomy sized working working′ e r)
+
+    module _ (e : roomy size (length out) (length out′) ≡ true) (e′ : roomy size (length working) (length working′) ≡ true) (known : (k : ℕ) → getD rows k 0 ≤ mostOffset) where
+      pub steps-ready : Ready nodes rows s members numbers count out out′ working working′ E second steps
+      steps-ready = record { steps-here = h; within = steps-fit members (h .inputs) known steps (h .fine); room = roomy-room sized out out′ e; working-room = roomy-room sized working working′ e′ }
+
+      pub steps-done : {out₁ out₁′ working₁ working₁′ : List ℕ} → Put (fold false all ∷ []) out 0 out′ 0 out₁ out₁′ → Zeroed working working′ working₁ working₁′
+          → WritesWith (foldInto false all out out′ working working′) (Done (size .nodes) (size .rows)) out out′ working working′ out₁ out₁′ working₁ working₁′
+      steps-done put zero =
+          let F = forest (fold false all ∷ []) in
+          let r = steps-ready in
+          let done = fold-done false out out′ working working′ all (r .room) (r .working-room) (r .within) in
+          let fine : Fine F = fold-fine false all (steps-fine members (h .inputs) steps (h .fine)) in
+          let l = room-lengths fine (r .room) in
+          let k = roomy-takes sized out out′ e in
+          with-done F done (writes-done F done (l .0) (l .1) (ap₂ Done (k .nodes) (k .rows)) (put .nodes-put) (put .rows-put)) zero

@@ -1,0 +1,4 @@
+pub mod Encodings
+pub mod Taking
+pub mod Along
+pub mod Deciding
