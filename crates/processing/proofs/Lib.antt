@@ -1,0 +1,3 @@
+mod Inputs
+mod Checking
+mod Deciding
