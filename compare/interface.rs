@@ -66,9 +66,10 @@ pub fn lengths(source: &str) -> Result<Lengths, String> {
 
 fn read_type(text: &str, lengths: &Lengths) -> Result<Type, String> {
     let text = text.trim();
-    let (lent, mutable, inner) = match (text.strip_prefix("&mut "), text.strip_prefix('&')) {
-        (Some(inner), _) => (true, true, inner.trim()),
-        (None, Some(inner)) => (true, false, inner.trim()),
+    let behind = text.strip_prefix('&').map(|t| if t.starts_with('\'') { t.split_once(' ').map_or("", |(_, t)| t) } else { t });
+    let (lent, mutable, inner) = match (behind, behind.and_then(|t| t.strip_prefix("mut "))) {
+        (_, Some(inner)) => (true, true, inner.trim()),
+        (Some(inner), None) => (true, false, inner.trim()),
         (None, None) => (false, false, text),
     };
     let elements = inner.strip_prefix('[').and_then(|t| t.strip_suffix(']'));
@@ -99,7 +100,8 @@ fn read_parameters(text: &str, lengths: &Lengths) -> Result<Vec<(String, Type)>,
 /// The function whose signature begins at the front of `text`, after `fn`.
 fn read_signature(doc: Vec<String>, text: &str, lengths: &Lengths) -> Result<Function, String> {
     let (name, rest) = text.split_once('(').ok_or("a signature without parameters")?;
-    let name = name.trim().to_string();
+    // lifetimes say nothing of how a function is called
+    let name = name.split('<').next().unwrap().trim().to_string();
     let (parameters, rest) = rest.split_once(')').ok_or(format!("{name}: parameters without an end"))?;
     // What follows is the result, a contract clause or the body.
     let result = match rest.trim_start().strip_prefix("->") {

@@ -1,7 +1,7 @@
 // One stored case, replayed. A case begins with its operation's number and two lists: the nodes and the rows of a batch, the
 // entries and the members of a special table, or the tokens or a template's text and nothing. The operations are in four
-// crates by what they give: `replay_lookups` a few numbers, `replay_texts` a text, `replay_templates` what is said of a
-// template, `replay_writing` an output, which is compared here.
+// crates by what they give: `replay_lookups` a few numbers, `replay_texts` a text, `replay_templates` what is said or made of a
+// template, `replay_writing` an output. Outputs are compared here.
 //
 // To add an operation: its function in one of the four, as is said there; its number in `replay_batch`, unless it is a
 // lookup; and its cases, which the comparison with the Rust makes.
@@ -10,6 +10,7 @@ ghost use mathlib.Core.Bool.{true};
 ghost use Rattle.operations.specs.Comments.{skips};
 use cases::Outcome;
 use replay_templates::COUNT_ADDED;
+use replay_templates::PROCESS;
 use replay_templates::READ_TEMPLATE;
 use replay_templates::VALIDATE;
 use replay_texts::SPAN;
@@ -89,13 +90,14 @@ fn replay_batch(operation: u32, nodes: &[u32], rows: &[u32], rest: &[u32]) -> Ou
         | MERGE
         | TRUNCATE_ENCODINGS
         | PAD
-        | PAD_ENCODINGS => { replay_writing(operation, nodes, rows, rest) }
+        | PAD_ENCODINGS
+        | PROCESS => { replay_writing(operation, nodes, rows, rest) }
         _ => replay_lookups::replay(operation, nodes, rows, rest),
     }
 }
 
 fn replay_writing(operation: u32, nodes: &[u32], rows: &[u32], rest: &[u32]) -> Outcome {
-    let at = replay_writing::answers_at(operation, rest);
+    let at = answers_at(operation, rest);
     if rest.len() < at {
         return Outcome::Bad;
     }
@@ -110,6 +112,13 @@ fn replay_writing(operation: u32, nodes: &[u32], rows: &[u32], rest: &[u32]) -> 
         &mut out_nodes,
         &mut out_rows,
     )
+}
+
+fn answers_at(operation: u32, rest: &[u32]) -> usize {
+    if operation == PROCESS {
+        return replay_templates::answers_at(rest);
+    }
+    replay_writing::answers_at(operation, rest)
 }
 
 // The answers of an operation that writes: its refusal, the counts of nodes and rows, and all that stands in its output
@@ -127,7 +136,7 @@ fn written(
     let stored_nodes = cases::list_at(answers, 3);
     let row_numbers = cases::length_at(answers, stored_nodes.end, out_rows);
     let mut counts = [BEFORE_COUNT; 2];
-    let refusal = replay_writing::write(
+    let refusal = write(
         operation,
         nodes,
         rows,
@@ -137,6 +146,22 @@ fn written(
         &mut counts,
     );
     answered(refusal, &counts, out_nodes, out_rows, answers)
+}
+
+// Runs an operation on the output that is lent, and gives its refusal.
+fn write(
+    operation: u32,
+    nodes: &[u32],
+    rows: &[u32],
+    rest: &[u32],
+    out_nodes: &mut [u32],
+    out_rows: &mut [u32],
+    written: &mut [usize; 2],
+) -> u32 {
+    if operation == PROCESS {
+        return replay_templates::process(nodes, rows, rest, out_nodes, out_rows, written);
+    }
+    replay_writing::write(operation, nodes, rows, rest, out_nodes, out_rows, written)
 }
 
 // Whether the answers are the refusal, the counts and what was left in the output.
