@@ -14,6 +14,7 @@ mod ours;
 mod outputs;
 mod padding;
 mod pairs;
+mod processing;
 mod sequence_column;
 mod tables;
 mod tally;
@@ -53,7 +54,7 @@ fn operations() -> Vec<Operation> {
     all.extend(lookups::OPERATIONS);
     all.extend([sequence_column::OPERATION, making::FROM_TOKENS, making::SET_SEQUENCE_ID, texts::TEXT, texts::SPAN, truncating::OPERATION]);
     all.extend([merging::MERGE_WITH, merging::MERGE, pairs::OPERATION, padding::PAD, padding::PAD_ENCODINGS]);
-    all.extend([templates::OPERATION, validating::VALIDATE, validating::COUNT_ADDED]);
+    all.extend([templates::OPERATION, validating::VALIDATE, validating::COUNT_ADDED, processing::OPERATION]);
     all
 }
 

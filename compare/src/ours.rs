@@ -109,6 +109,20 @@ impl Lent {
         }
     }
 
+    pub fn process(&mut self, b: &Batch, templates: Templates, table: Table, add_special_tokens: bool, working: &mut Batch) -> u32 {
+        let (bn, br, n, r) = (&b.nodes, &b.rows, &mut self.out.nodes, &mut self.out.rows);
+        let (single, pair, wn, wr) = (templates.single, templates.pair, &mut working.nodes, &mut working.rows);
+        let Table { entries, members, added } = table;
+        let counts = self.counts.as_mut_ptr();
+        unsafe {
+            bindings::noddrefyr_process(
+                bn.as_ptr(), bn.len(), br.as_ptr(), br.len(), templates.single_set, single.as_ptr(), single.len(), templates.pair_set, pair.as_ptr(), pair.len(),
+                entries.as_ptr(), entries.len(), members.as_ptr(), members.len(), added.as_ptr(), added.len(), add_special_tokens,
+                n.as_mut_ptr(), n.len(), r.as_mut_ptr(), r.len(), wn.as_mut_ptr(), wn.len(), wr.as_mut_ptr(), wr.len(), counts,
+            )
+        }
+    }
+
     pub fn set_sequence_id(&mut self, b: &Batch, id: u32) -> u32 {
         let (bn, br, n, r) = (&b.nodes, &b.rows, &mut self.out.nodes, &mut self.out.rows);
         let counts = self.counts.as_mut_ptr();
@@ -292,4 +306,11 @@ pub fn count_added(set: bool, text: &[u8], is_pair: bool, table: Table) -> (u32,
         )
     };
     (refusal, count)
+}
+
+/// In an output and a working store of so many numbers.
+pub fn process(b: &Batch, templates: Templates, table: Table, add_special_tokens: bool, sizes: [usize; 4]) -> Folded {
+    let mut working = Batch { nodes: vec![BEFORE; sizes[2]], rows: vec![BEFORE; sizes[3]] };
+    let output = Lent::new(sizes[0], sizes[1]).told(|lent| lent.process(b, templates, table, add_special_tokens, &mut working));
+    Folded { output, working }
 }
