@@ -253,6 +253,27 @@ uint32_t noddrefyr_count_added(
     const uint8_t *added, size_t added_len,
     uint64_t *count);
 
+/* One or two encodings put together as the template for one or for two says, special tokens added or left out, written to the
+   output; written is its nodes and its rows. Encoding i gets sequence id i; a template that is not set is `$0`, or
+   `$A:0 $B:1`. The working store takes as much as the output and is all zeros afterwards. Refused with 1, 15, 12, 8, 7, 11
+   (B without a second encoding), 10 (only where special tokens are added), 2. */
+uint32_t noddrefyr_process(
+    const uint32_t *nodes, size_t nodes_len,
+    const uint32_t *rows, size_t rows_len,
+    bool single_set,
+    const uint8_t *single, size_t single_len,
+    bool pair_set,
+    const uint8_t *pair, size_t pair_len,
+    const uint32_t *entries, size_t entries_len,
+    const uint32_t *members, size_t members_len,
+    const uint8_t *added, size_t added_len,
+    bool add_special_tokens,
+    uint32_t *out_nodes, size_t out_nodes_len,
+    uint32_t *out_rows, size_t out_rows_len,
+    uint32_t *working_nodes, size_t working_nodes_len,
+    uint32_t *working_rows, size_t working_rows_len,
+    size_t written[2]);
+
 #ifdef __cplusplus
 }
 #endif
