@@ -33,13 +33,13 @@ pub record Along (members : List ℕ) (E : Encoding) (second : Option Encoding) 
   pub folding : Folding false (map (stepEncoding members E second) steps) (map (stepEncoding members E second) left) out out′ working working′ now now′ used used′
 
 -- The step that is next, where steps are left.
-pub record Next (members : List ℕ) (E : Encoding) (second : Option Encoding) (steps : List Step) (out out′ working working′ now now′ used used′ : List ℕ) (i : ℕ) : Type 0 where
-  pub passed : List Step
-  pub step : Step
-  pub rest : List Step
-  pub split : steps ≡ passed ++ step ∷ rest
-  pub place : length passed ≡ i
-  pub folding : Folding false (map (stepEncoding members E second) steps) (stepEncoding members E second step ∷ map (stepEncoding members E second) rest) out out′ working working′ now now′ used used′
+record Next (members : List ℕ) (E : Encoding) (second : Option Encoding) (steps : List Step) (out out′ working working′ now now′ used used′ : List ℕ) (i : ℕ) : Type 0 where
+  passed : List Step
+  step : Step
+  rest : List Step
+  split : steps ≡ passed ++ step ∷ rest
+  place : length passed ≡ i
+  folding : Folding false (map (stepEncoding members E second) steps) (stepEncoding members E second step ∷ map (stepEncoding members E second) rest) out out′ working working′ now now′ used used′
 
 all-seam : {A : Type 0} (M : A → Type 0) (xs : List A) (y : A) (ys : List A) → All M (xs ++ y ∷ ys) → M y
 all-seam M [] y ys (m, ms) = m
@@ -59,7 +59,7 @@ module _ {nodes rows : List ℕ} {s : Spot} {members numbers : List ℕ} {count 
       numbered = subst (StepsAt numbers) (n .split) (ready .steps-here .numbered)
 
       -- where it stands, and that it is read there
-      pub next-inside : i * pieceWidth + pieceWidth ≤ length numbers
+      next-inside : i * pieceWidth + pieceWidth ≤ length numbers
       next-inside = omega (arith, step-inside (n .passed) (n .step) (n .rest) numbered, n .place)
 
       next-fine : StepFine members second (n .step)
@@ -69,7 +69,7 @@ module _ {nodes rows : List ℕ} {s : Spot} {members numbers : List ℕ} {count 
         next-is : step ≡ n .step
         next-is = e ∙ ap (λ (k : ℕ). stepAt numbers (k * pieceWidth)) (sym (n .place)) ∙ step-is (n .passed) (n .step) (n .rest) numbered
 
-        pub next-asks : AskTake nodes rows s members step now now′ used used′
+        next-asks : AskTake nodes rows s members step now now′ used used′
         next-asks =
             let f = n .folding in
             let ask : AskTake nodes rows s members (n .step) now now′ used used′ = record { E = E; second = second; inputs = ready .steps-here .inputs; fine = next-fine; S = so-far f; here-s = so-far-here f; within = next-within f; room = next-room f; working-room = next-working-room f } in
@@ -104,7 +104,7 @@ module _ {nodes rows : List ℕ} {s : Spot} {members numbers : List ℕ} {count 
 pub record Going (nodes rows : List ℕ) (s : Spot) (members numbers : List ℕ) (count : ℕ) (out out′ working working′ now now′ used used′ : List ℕ) (i : ℕ) : Type 0 where
   pub along : (E : Encoding) (second : Option Encoding) (steps : List Step) → Ready nodes rows s members numbers count out out′ working working′ E second steps → Along members E second steps out out′ working working′ now now′ used used′ i
 
--- the empty encoding has room
+-- there is room for the empty encoding
 pub asks-start : {nodes rows : List ℕ} {s : Spot} {members numbers : List ℕ} {count : ℕ} {entry entry′ working working′ : List ℕ} → AskWrite nodes rows s members numbers count entry entry′ working working′ → nodeWidth ≤ length entry
 asks-start {members = members} a = start-asks false (map (stepEncoding members (a .E) (a .second)) (a .steps)) (a .ready .room)
 
@@ -116,7 +116,7 @@ module _ {nodes rows : List ℕ} {s : Spot} {members numbers : List ℕ} {count 
         along = λ E second steps r. record { passed = []; left = steps; split = refl; place = refl; folding = folding-start false (map (stepEncoding members E second) steps) (put-room-back p (r .room)) (r .within) (r .working-room) p };
       }
 
-  -- which takes no room
+  -- it changes no length, so the fold has the room that it had
   started : {E : Encoding} {second : Option Encoding} {steps : List Step} → Ready nodes rows s members numbers count entry entry′ working working′ E second steps → Ready nodes rows s members numbers count out out′ working working′ E second steps
   started r = record { steps-here = r .steps-here; within = r .within; room = put-room p (r .room); working-room = r .working-room }
 

@@ -65,15 +65,14 @@ module _ {nodes rows : List ℕ} {s : Spot} {members numbers : List ℕ} {count 
     pub outcome-no-working : roomy size (length working) (length working′) ≡ false → foldInto false all out out′ working working′ ≡ refused NoRoom
     outcome-no-working e = fold-no-room false out out′ working working′ all (λ _ r. not-roomy sized working working′ e r)
 
-    module _ (e : roomy size (length out) (length out′) ≡ true) (e′ : roomy size (length working) (length working′) ≡ true) (known : (k : ℕ) → getD rows k 0 ≤ mostOffset) where
-      pub steps-ready : Ready nodes rows s members numbers count out out′ working working′ E second steps
-      steps-ready = record { steps-here = h; within = steps-fit members (h .inputs) known steps (h .fine); room = roomy-room sized out out′ e; working-room = roomy-room sized working working′ e′ }
+    module _ (e : roomy size (length out) (length out′) ≡ true) where
+      pub steps-ready : roomy size (length working) (length working′) ≡ true → ((k : ℕ) → getD rows k 0 ≤ mostOffset) → Ready nodes rows s members numbers count out out′ working working′ E second steps
+      steps-ready e′ known = record { steps-here = h; within = steps-fit members (h .inputs) known steps (h .fine); room = roomy-room sized out out′ e; working-room = roomy-room sized working working′ e′ }
 
-      pub steps-done : {out₁ out₁′ working₁ working₁′ : List ℕ} → Put (fold false all ∷ []) out 0 out′ 0 out₁ out₁′ → Zeroed working working′ working₁ working₁′
+      pub steps-done : {out₁ out₁′ working₁ working₁′ : List ℕ} → Ready nodes rows s members numbers count out out′ working working′ E second steps → Put (fold false all ∷ []) out 0 out′ 0 out₁ out₁′ → Zeroed working working′ working₁ working₁′
           → WritesWith (foldInto false all out out′ working working′) (Done (size .nodes) (size .rows)) out out′ working working′ out₁ out₁′ working₁ working₁′
-      steps-done put zero =
+      steps-done r put zero =
           let F = forest (fold false all ∷ []) in
-          let r = steps-ready in
           let done = fold-done false out out′ working working′ all (r .room) (r .working-room) (r .within) in
           let fine : Fine F = fold-fine false all (steps-fine members (h .inputs) steps (h .fine)) in
           let l = room-lengths fine (r .room) in

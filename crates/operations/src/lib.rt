@@ -1,16 +1,16 @@
 // One stored case, replayed. A case begins with its operation's number and two lists: the nodes and the rows of a batch, the
-// entries and the members of a special table, or the tokens or a template's text and nothing. The operations are in four
-// crates by what they give: `replay_lookups` a few numbers, `replay_texts` a text, `replay_templates` what is said or made of a
-// template, `replay_writing` an output. Outputs are compared here.
+// entries and the members of a special table, or the tokens or a template's text and nothing. The operations are in five
+// crates by what they give: `replay_lookups` a few numbers, `replay_texts` a text, `replay_templates` what is said of a
+// template, `replay_writing` and `replay_process` an output, which is compared here.
 //
-// To add an operation: its function in one of the four, as is said there; its number in `replay_batch`, unless it is a
+// To add an operation: its function in one of them, as is said there; its number in `replay_batch`, unless it is a
 // lookup; and its cases, which the comparison with the Rust makes.
 ghost use mathlib.Core.Path.{_≡_};
 ghost use mathlib.Core.Bool.{true};
 ghost use Rattle.operations.specs.Comments.{skips};
 use cases::Outcome;
+use replay_process::PROCESS;
 use replay_templates::COUNT_ADDED;
-use replay_templates::PROCESS;
 use replay_templates::READ_TEMPLATE;
 use replay_templates::VALIDATE;
 use replay_texts::SPAN;
@@ -116,7 +116,7 @@ fn replay_writing(operation: u32, nodes: &[u32], rows: &[u32], rest: &[u32]) -> 
 
 fn answers_at(operation: u32, rest: &[u32]) -> usize {
     if operation == PROCESS {
-        return replay_templates::answers_at(rest);
+        return replay_process::answers_at(rest);
     }
     replay_writing::answers_at(operation, rest)
 }
@@ -159,7 +159,7 @@ fn write(
     written: &mut [usize; 2],
 ) -> u32 {
     if operation == PROCESS {
-        return replay_templates::process(nodes, rows, rest, out_nodes, out_rows, written);
+        return replay_process::process(nodes, rows, rest, out_nodes, out_rows, written);
     }
     replay_writing::write(operation, nodes, rows, rest, out_nodes, out_rows, written)
 }

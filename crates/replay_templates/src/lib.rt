@@ -1,6 +1,5 @@
 // The replay of the operations on templates, each called through the C interface. Texts and the added pool are lists of
 // bytes, and the line above each function is its whole case. To add one: its number, such a function, and an arm of `replay`.
-// `process` writes to an output, which is compared where the outputs of other operations are.
 ghost use Rattle.replay_templates.specs.Texts.{TextHeld, Held};
 use cases::Outcome;
 use template::Template;
@@ -12,18 +11,10 @@ pub const VALIDATE: u32 = 24;
 
 pub const COUNT_ADDED: u32 = 25;
 
-pub const PROCESS: u32 = 26;
-
 // The most bytes of a text, some more than a template may have, and of the added pool.
-const TEXT: usize = 4100;
+pub const TEXT: usize = 4100;
 
-const POOL: usize = 256;
-
-// The numbers of each list of a working store.
-const WORKING: usize = 2048;
-
-// How many numbers stand before the lists in the rest of a case of `process`.
-const MARKS: usize = 4;
+pub const POOL: usize = 256;
 
 // What stands in each lent number before a call.
 const BEFORE: u32 = 7;
@@ -34,9 +25,6 @@ const BEFORE_SUM: u64 = 7;
 
 // The largest number of a case.
 const LARGEST: u64 = 4294967295;
-
-// What is answered in place of a refusal where a working store was not left as the case says.
-const NOT_LEFT: u32 = 4294967295;
 
 // `first` and `second` are the lists that the case begins with, `rest` what follows them.
 pub fn replay(operation: u32, first: &[u32], second: &[u32], rest: &[u32]) -> Outcome {
@@ -118,16 +106,16 @@ fn pieces_stored(
 }
 
 // Whether a text of a case and the added pool after it are there, how many bytes they have, and the place after both.
-struct Texts {
-    fits: bool,
-    text: usize,
-    added: usize,
-    end: usize,
+pub struct Texts {
+    pub fits: bool,
+    pub text: usize,
+    pub added: usize,
+    pub end: usize,
 }
 
 // The text and the added pool at a place, put at the start of what is lent for them. Where there are none, the place after
 // them is the end of the case, so that no answer follows.
-fn read_texts(rest: &[u32], at: usize, text: &mut [u8], added: &mut [u8]) -> Texts
+pub fn read_texts(rest: &[u32], at: usize, text: &mut [u8], added: &mut [u8]) -> Texts
     ensures { λ r. ⌜ Held r (now (text .exit)) (now (added .exit)) ⌝ }
 {
     let text_list = cases::bytes_at(rest, at, text);
@@ -216,129 +204,4 @@ fn sum_stored(refusal: u32, sum: u64, rest: &[u32], at: usize) -> Outcome {
     }
     let answer = [sum as u32];
     cases::answered_one(refusal, &answer, rest, at)
-}
-
-// Where the answers of a case of `process` begin: past its end, if its lists are not there.
-pub fn answers_at(rest: &[u32]) -> usize {
-    let mut text = [0u8; TEXT];
-    let mut added = [0u8; POOL];
-    after_lists(rest, &mut text, &mut added)
-}
-
-// The place after the five lists of a case of `process`. A list that does not fit lets none after it fit.
-fn after_lists(rest: &[u32], text: &mut [u8], added: &mut [u8]) -> usize {
-    let entries = cases::list_at(rest, MARKS);
-    let members = cases::list_at(rest, entries.end);
-    let single = cases::bytes_at(rest, members.end, text);
-    let held = read_texts(rest, single.end, text, added);
-    if held.fits { held.end } else { usize::MAX }
-}
-
-// `26 nodes rows add single-set pair-set left entries members single pair added refusal nodes rows out-nodes out-rows`: `left`
-// is what each number of the working store is after the call
-pub fn process(
-    nodes: &[u32],
-    rows: &[u32],
-    rest: &[u32],
-    out_nodes: &mut [u32],
-    out_rows: &mut [u32],
-    written: &mut [usize; 2],
-) -> u32 {
-    let mut single = [0u8; TEXT];
-    let mut pair = [0u8; TEXT];
-    let mut added = [0u8; POOL];
-    with_texts(
-        nodes,
-        rows,
-        rest,
-        &mut single,
-        &mut pair,
-        &mut added,
-        out_nodes,
-        out_rows,
-        written,
-    )
-}
-
-fn with_texts(
-    nodes: &[u32],
-    rows: &[u32],
-    rest: &[u32],
-    single: &mut [u8],
-    pair: &mut [u8],
-    added: &mut [u8],
-    out_nodes: &mut [u32],
-    out_rows: &mut [u32],
-    written: &mut [usize; 2],
-) -> u32 {
-    let entries = cases::list_at(rest, MARKS);
-    let members = cases::list_at(rest, entries.end);
-    let list = cases::bytes_at(rest, members.end, single);
-    let single_bytes = list.end - list.start;
-    let held = read_texts(rest, list.end, pair, added);
-    let pair_bytes = held.text;
-    let added_bytes = held.added;
-    processed(
-        nodes,
-        rows,
-        rest,
-        &single[..single_bytes],
-        &pair[..pair_bytes],
-        &added[..added_bytes],
-        out_nodes,
-        out_rows,
-        written,
-    )
-}
-
-fn processed<'a>(
-    nodes: &[u32],
-    rows: &[u32],
-    rest: &[u32],
-    single: &'a [u8],
-    pair: &'a [u8],
-    added: &[u8],
-    out_nodes: &mut [u32],
-    out_rows: &mut [u32],
-    written: &mut [usize; 2],
-) -> u32 {
-    let entries = cases::list_at(rest, MARKS);
-    let entries_start = entries.start;
-    let entries_end = entries.end;
-    let members = cases::list_at(rest, entries_end);
-    let members_start = members.start;
-    let members_end = members.end;
-    let mut working_nodes = [BEFORE; WORKING];
-    let mut working_rows = [BEFORE; WORKING];
-    let refusal = template_exports::noddrefyr_process(
-        nodes,
-        rows,
-        cases::number_at(rest, 1) == 1,
-        single,
-        cases::number_at(rest, 2) == 1,
-        pair,
-        &rest[entries_start..entries_end],
-        &rest[members_start..members_end],
-        added,
-        cases::number_at(rest, 0) == 1,
-        out_nodes,
-        out_rows,
-        &mut working_nodes,
-        &mut working_rows,
-        written,
-    );
-    let left = cases::number_at(rest, 3);
-    if !all_are(left, &working_nodes) {
-        return NOT_LEFT;
-    }
-    if !all_are(left, &working_rows) {
-        return NOT_LEFT;
-    }
-    refusal
-}
-
-// Whether each number of a working store is this one.
-fn all_are(number: u32, store: &[u32]) -> bool {
-    let expected = [number; WORKING];
-    cases::equal(store, &expected)
 }

@@ -75,7 +75,8 @@ returns-3 c = λ E second steps h.
     let w = c .before .before .before .before .before .before .before .before .before .before .before .before .before .before .before in
     let e = w .before .before .before .before .before in
     let k = w .write-steps .kept in
-    steps-done h _ _ _ _ (sized (e .before .before .before .before) E second steps h) (roomed (e .before .before)) (working-roomed e) (λ k. omega (arith, e .before .before .before .before .before .before .before .before .before .before .before .shared-slice-known2 .given k)) (w .write-steps .ensures .folded E second steps (ready e E second steps h))
+    let r = ready e E second steps h in
+    steps-done h _ _ _ _ (sized (e .before .before .before .before) E second steps h) (roomed (e .before .before)) r (w .write-steps .ensures .folded E second steps r)
     (zeroed-kept (k .1 .1 .1 .1 .1 .1 .1 .1 .0) (k .1 .1 .1 .1 .1 .1 .1 .1 .1 .0) (c .before .before .before .before .zero-both .ensures))
 
 pub apply-steps-spec : {M : Type 1} → statement M

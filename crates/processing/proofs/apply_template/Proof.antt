@@ -20,7 +20,7 @@ enum-known-checked : tie.Need-enum-known-checked
 enum-known-checked c = search needs
 
 returns : tie.Need-returns
-returns c = 
+returns c =
     λ E second table i t.
     let v = c .before .before .before .before .before .before .before .before .before .before .before .before .before .before .before .args in
     let (o, six) = unusable E second table (v .add-special-tokens) _ _ _ _ (now (v .text)) (ap (λ (b : Bool). usability table b (v .add-special-tokens) (readTemplate (now (v .text)))) (sym (second-told second i)) ∙ sym (c .before .before .before .check-template .ensures .says _ table t) ∙ c .before .checked .given .1) in
@@ -30,7 +30,7 @@ enum-told : tie.Need-enum-told
 enum-told c = search needs
 
 apply-pieces-requires : tie.Need-apply-pieces-requires
-apply-pieces-requires c κs = 
+apply-pieces-requires c κs =
     let a = c .before .before .before .before .before .before .before .before .before .before .before .before .before .before .before .before .before .before .pre in
     let v = c .before .before .before .before .before .before .before .before .before .before .before .before .before .before .before .before .before .before .args in
     let (pieces, u, _) = usable (a .E) (a .second) (a .table) (v .add-special-tokens) [] [] [] [] (now (v .text)) (ap (λ (b : Bool). usability (a .table) b (v .add-special-tokens) (readTemplate (now (v .text)))) (sym (second-told (a .second) (a .inputs))) ∙ sym (c .before .before .before .before .before .before .check-template .ensures .says _ (a .table) (a .is-sound)) ∙ c .before .before .before .before .enum-told .given .1) in
@@ -49,7 +49,7 @@ same-length-4 : tie.Need-same-length-4
 same-length-4 c = search needs
 
 returns-2 : tie.Need-returns-2
-returns-2 c = 
+returns-2 c =
     λ E second table i t.
     let v = c .before .before .before .before .before .before .before .before .before .before .before .before .before .before .before .before .before .before .before .before .before .before .before .before .before .before .before .args in
     let (pieces, u, o) = usable E second table (v .add-special-tokens) (now (v .out-nodes)) (now (v .out-rows)) (now (v .working-nodes)) (now (v .working-rows)) (now (v .text)) (ap (λ (b : Bool). usability table b (v .add-special-tokens) (readTemplate (now (v .text)))) (sym (second-told second i)) ∙ sym (c .before .before .before .before .before .before .before .before .before .before .before .before .before .before .before .check-template .ensures .says _ table t) ∙ c .before .before .before .before .before .before .before .before .before .before .before .before .before .enum-told .given .1) in

@@ -39,7 +39,7 @@ enum-known-table : tie.Need-enum-known-table
 enum-known-table c = search needs
 
 returns-2 : tie.Need-returns-2
-returns-2 c = 
+returns-2 c =
     let t = those (c .before .before .before .before) in
     let e = answer-refused _ (sym (c .before .before .before .check-table .ensures) ∙ c .before .table .given .1) in
     with-refused _ (process-faulty _ _ _ _ _ _ _ (t .1) (t .2) e) (table-not-six _ _ _ e) refl refl refl refl refl
@@ -66,7 +66,7 @@ text-used-requires-3 : tie.Need-text-used-requires-3
 text-used-requires-3 c κs = search needs
 
 apply-template-requires : tie.Need-apply-template-requires
-apply-template-requires c κs = 
+apply-template-requires c κs =
     let t = those (c .before .before .before .before .before .before .before .before .before .before .before .before .before .before) in
     let s = the-table (c .before .before .before .before .before .before .before .before .before .before .before) in
     record { E = t .0; second = t .1; inputs = c .before .before .before .before .before .before .before .before .before .before .second-spot .ensures (t .0) (t .1) (t .2); table = s .0; is-sound = s .1 }
@@ -84,7 +84,7 @@ same-length-4 : tie.Need-same-length-4
 same-length-4 c = search needs
 
 returns-3 : tie.Need-returns-3
-returns-3 c = 
+returns-3 c =
     let v = c .before .before .before .before .before .before .before .before .before .before .before .before .before .before .before .before .before .before .before .before .before .before .before .before .before .before .before .before .before .before .before .before .before .before .before .before .args in
     let t = those (c .before .before .before .before .before .before .before .before .before .before .before .before .before .before .before .before .before .before .before .before .before .before .before) in
     let s = the-table (c .before .before .before .before .before .before .before .before .before .before .before .before .before .before .before .before .before .before .before .before) in
