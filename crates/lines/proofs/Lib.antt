@@ -1,4 +1,4 @@
-pub mod Digits
 mod Reading
-pub mod Moves
 mod Samples
+pub mod Digits
+pub mod Moves

@@ -19,8 +19,8 @@ abbrev pub mostDigits : ℕ
 mostDigits = 10
 
 -- "up to 4,294,967,295"
-abbrev pub largest : ℕ
-largest = 4294967295
+abbrev pub largestU32 : ℕ
+largestU32 = 4294967295
 
 abbrev pub both : Bool → Bool → Bool
 both true b = b
@@ -53,12 +53,12 @@ pickNumber false a b = b
 
 -- whether so many digits with this value are a number
 abbrev pub isNumber : ℕ → ℕ → Bool
-isNumber count value = both (leb 1 count) (both (leb count mostDigits) (leb value largest))
+isNumber count value = both (leb 1 count) (both (leb count mostDigits) (leb value largestU32))
 
 -- the number of so many digits with this value, at a place, and the place after it
-abbrev pub numberOf : ℕ → ℕ → ℕ → Number
-numberOf at count value = pickNumber (isNumber count value) (Read value (at + count)) Bad
+abbrev pub readOf : ℕ → ℕ → ℕ → Number
+readOf at count value = pickNumber (isNumber count value) (Read value (at + count)) Bad
 
 -- the number that the digits at a place are
 abbrev pub numberAt : List ℕ → ℕ → Number
-numberAt bytes at = numberOf at (length (digitsOf (drop at bytes))) (decimal (digitsOf (drop at bytes)))
+numberAt bytes at = readOf at (length (digitsOf (drop at bytes))) (decimal (digitsOf (drop at bytes)))

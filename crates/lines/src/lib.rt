@@ -1,5 +1,5 @@
 // Reading decimal numbers from the bytes of a line, and gathering a line byte by byte, for the programs.
-// A number is written by `io::decimal` of the kit, which promises the digits.
+// Numbers are written by `listing_text`, and where only a count is printed by the kit's `io`.
 ghost use mathlib.Core.Path.{_≡_};
 ghost use Prim.Native.Nat.{_+_, min};
 ghost use lib.ListN.{length, set};
@@ -53,7 +53,8 @@ pub fn read_number(bytes: &[u8], at: usize) -> Number
     }
 }
 
-fn wide(digit: u8) -> u64
+// A byte as a number to count with.
+pub fn wide(digit: u8) -> u64
     ensures { λ r. ⌜ r ≡ digit ⌝ }
 {
     digit as u64

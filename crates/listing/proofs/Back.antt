@@ -10,18 +10,18 @@ use lib.Dec.{ltb}
 use lib.ListN.{length, getD, drop, length-append}
 use lib.Seq.{drop-at, getD-append-add}
 use borrow.Author.Tests.{ltb-true, ltb-false, le-leb}
-use Rattle.record.specs.Tree.{All}
+use Rattle.lists.specs.Lists.{All}
 use Rattle.record.specs.WellFormed.{mostRows}
-use Rattle.cut.specs.declared.Direction.{Direction}
-use Rattle.cut.specs.declared.Direction.the-variants.{Left, Right}
-use Rattle.lines.specs.Decimal.{zeroByte, nineByte, mostDigits, largest, isDigit, digitsOf, decimal, decimalAfter, numberAt}
+use Rattle.cut_plan.specs.declared.Direction.{Direction}
+use Rattle.cut_plan.specs.declared.Direction.the-variants.{Left, Right}
+use Rattle.lines.specs.Decimal.{zeroByte, nineByte, mostDigits, largestU32, isDigit, digitsOf, decimal, decimalAfter, numberAt}
 use Rattle.lines.specs.declared.Number.the-variants.{Read}
-use Rattle.listing.specs.Text.{digitsUpTo, numberText}
-use Rattle.listing.specs.Asked.{spaceByte, letterL, letterR, spaced, fieldAt, withLetter, request, within, askedOf}
-use Rattle.listing.specs.declared.Asked.the-variants.{Cut}
-use Rattle.listing.proofs.Text.{lastOf, digits-one, digits-more, number-few}
+use Rattle.listing_text.specs.Text.{digitsUpTo, numberText}
+use Rattle.listing_request.specs.Asked.{spaceByte, letterL, letterR, spaced, fieldAt, withLetter, request, within, askedOf}
+use Rattle.listing_request.specs.declared.Asked.the-variants.{Cut}
+use Rattle.listing_text.proofs.Text.{lastOf, digits-one, digits-more, number-few}
 use Rattle.listing.proofs.Lines.{field, length-field}
-use Rattle.listing.proofs.Fields.{spaced-space, asked-third}
+use Rattle.listing_request.proofs.Fields.{spaced-space, asked-third}
 
 -- ---- The digits of a number
 
@@ -79,12 +79,12 @@ number-some n = omega (arith, length-append (cond (ltb n 10) [] (digitsUpTo 9 (n
 -- ---- Reading back
 
 -- a number that stands in a text before no digit
-pub number-back : (before rest : List ℕ) (n : ℕ) → n ≤ largest → digitsOf rest ≡ [] → numberAt (before ++ (numberText n ++ rest)) (length before) ≡ Read n (length before + length (numberText n))
+pub number-back : (before rest : List ℕ) (n : ℕ) → n ≤ largestU32 → digitsOf rest ≡ [] → numberAt (before ++ (numberText n ++ rest)) (length before) ≡ Read n (length before + length (numberText n))
 number-back before rest n h e =
-    rw (drop-at before (numberText n ++ rest) (length before) refl, digits-of (numberText n) rest (all-digits mostDigits n) e, value-is 9 n (omega arith), le-leb 1 (length (numberText n)) (number-some n), le-leb (length (numberText n)) mostDigits (number-few n), le-leb n largest h)
+    rw (drop-at before (numberText n ++ rest) (length before) refl, digits-of (numberText n) rest (all-digits mostDigits n) e, value-is 9 n (omega arith), le-leb 1 (length (numberText n)) (number-some n), le-leb (length (numberText n)) mostDigits (number-few n), le-leb n largestU32 h)
 
 -- a field
-pub field-back : (before rest : List ℕ) (n : ℕ) → n ≤ largest → fieldAt (before ++ (field n spaceByte ++ rest)) (length before) ≡ Read n (length (before ++ field n spaceByte))
+pub field-back : (before rest : List ℕ) (n : ℕ) → n ≤ largestU32 → fieldAt (before ++ (field n spaceByte ++ rest)) (length before) ≡ Read n (length (before ++ field n spaceByte))
 unfolding digitsOf
 field-back before rest n h =
     let line = before ++ (numberText n ++ (spaceByte ∷ rest)) in
@@ -103,7 +103,7 @@ letterOf Right = letterR
 abbrev pub asking : ℕ → ℕ → ℕ → Direction → List ℕ
 asking rows max stride d = field rows spaceByte ++ (field max spaceByte ++ (field stride spaceByte ++ (letterOf d ∷ [])))
 
-pub asked-back : (rows max stride : ℕ) (d : Direction) → rows ≤ mostRows → max ≤ largest → stride ≤ largest → askedOf (asking rows max stride d) ≡ Cut (request rows max stride d)
+pub asked-back : (rows max stride : ℕ) (d : Direction) → rows ≤ mostRows → max ≤ largestU32 → stride ≤ largestU32 → askedOf (asking rows max stride d) ≡ Cut (request rows max stride d)
 asked-back rows max stride d a b c =
     let f₁ = field rows spaceByte in
     let f₂ = field max spaceByte in

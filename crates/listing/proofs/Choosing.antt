@@ -5,20 +5,21 @@ use Prim.Native.Nat.{ℕ, zero, suc, _+_, _≤_}
 use native.Mathlib.Omega.{arith}
 use mathlib.Core.List.{List, [], _∷_}
 use lib.ListN.{length, getD, length-append}
-use Rattle.cut.specs.Cut.{bounds, decisionOf}
-use Rattle.cut.specs.declared.Bounds.{Bounds}
-use Rattle.cut.specs.declared.Decision.{Decision}
-use Rattle.cut.specs.declared.Decision.the-variants.{Whole, Emptied, StrideRefused, Windows}
-use Rattle.cut.proofs.Decides.{Says, decided}
-use Rattle.cut.proofs.Windows.{windows-count}
-use Rattle.listing.specs.Text.{bytes, numberText}
+use Rattle.cut_plan.specs.Cut.{bounds, decisionOf}
+use Rattle.record.specs.declared.Bounds.{Bounds}
+use Rattle.cut_plan.specs.declared.Decision.{Decision}
+use Rattle.cut_plan.specs.declared.Decision.the-variants.{Whole, Emptied, StrideRefused, Windows}
+use Rattle.cut_plan.proofs.Decides.{Says, decided}
+use Rattle.cut_plan.proofs.Windows.{windows-count}
+use Rattle.listing_text.specs.Text.{bytes, numberText}
 use Rattle.listing.specs.Answer.{windowsBy, windowsListed, countLine, firstBy, firstLine}
-use Rattle.listing.specs.Writing.{longest, Ready, Wrote}
-use Rattle.listing.specs.declared.Request.{Request}
-use Rattle.listing.specs.declared.Asked.{Asked}
-use Rattle.listing.specs.declared.Asked.the-variants.{BadLine, Cut}
-use Rattle.listing.proofs.Text.{number-few}
-use Rattle.listing.proofs.Wrote.{wrote-long}
+use Rattle.listing.specs.Contracts.{longest, Ready}
+use Rattle.listing_text.specs.Contracts.{Wrote}
+use Rattle.listing_request.specs.declared.Request.{Request}
+use Rattle.listing_request.specs.declared.Asked.{Asked}
+use Rattle.listing_request.specs.declared.Asked.the-variants.{BadLine, Cut}
+use Rattle.listing_text.proofs.Text.{number-few}
+use Rattle.listing_text.proofs.Wrote.{wrote-long}
 
 module _ (q : Request) {k : Decision} (e : k ≡ decisionOf (q .rows) (q .max) (q .stride)) where
   pub listed-by : windowsListed q ≡ windowsBy k q

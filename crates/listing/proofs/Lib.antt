@@ -1,7 +1,4 @@
-pub mod Text
-pub mod Wrote
-pub mod Fields
+mod Samples
 pub mod Choosing
 pub mod Lines
 pub mod Back
-mod Samples

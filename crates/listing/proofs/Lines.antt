@@ -8,16 +8,17 @@ use native.Mathlib.Omega.{arith}
 use mathlib.Core.List.{List, [], _∷_, _++_, append-assoc, append-nil}
 use lib.ListN.{length, getD, take, drop, length-append, length-take, length-drop, take-append-drop}
 use lib.Seq.{take-suc, getD-drop, drop-drop, length-sets}
-use Rattle.cut.specs.Cut.{bounds}
-use Rattle.cut.proofs.Ceiling.{either}
-use Rattle.cut.specs.declared.Bounds.{Bounds}
-use Rattle.listing.specs.Text.{bytes, numberText}
+use Rattle.cut_plan.specs.Cut.{bounds}
+use Rattle.lists.proofs.Numbers.{either}
+use Rattle.record.specs.declared.Bounds.{Bounds}
+use Rattle.listing_text.specs.Text.{bytes, numberText}
 use Rattle.listing.specs.Answer.{countLine, windowLine, windowLines, windowsListed}
-use Rattle.listing.specs.Writing.{longest, Wrote, Lists}
-use Rattle.listing.specs.declared.Request.{Request}
+use Rattle.listing.specs.Contracts.{longest, Lists}
+use Rattle.listing_text.specs.Contracts.{Wrote}
+use Rattle.listing_request.specs.declared.Request.{Request}
 use Rattle.listing.specs.declared.Step.{Step}
-use Rattle.listing.proofs.Text.{number-few}
-use Rattle.listing.proofs.Wrote.{wrote-then, wrote-as}
+use Rattle.listing_text.proofs.Text.{number-few}
+use Rattle.listing_text.proofs.Wrote.{wrote-then, wrote-as}
 
 -- ---- One line
 

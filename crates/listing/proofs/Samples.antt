@@ -3,11 +3,11 @@
 use Prim.Native.String.{String}
 use mathlib.Core.Path.{_≡_, refl}
 use mathlib.Core.List.{List, [], _∷_}
-use Rattle.record.specs.Tree.{All}
-use Rattle.cut.specs.Cut.{rightFrom, leftFrom, windowsOf, decisionOf}
+use Rattle.lists.specs.Lists.{All}
+use Rattle.cut_plan.specs.Cut.{rightFrom, leftFrom, windowsOf, decisionOf}
 use Rattle.lines.specs.Decimal.{digitsOf, decimalAfter}
-use Rattle.listing.specs.Text.{bytes, digitsUpTo}
-use Rattle.listing.specs.Asked.{askedOf}
+use Rattle.listing_text.specs.Text.{bytes, digitsUpTo}
+use Rattle.listing_request.specs.Asked.{askedOf}
 use Rattle.listing.specs.Answer.{windowsListed, countLine, firstLine, windowLine, windowLines, answerOf}
 
 record Sample : Type 0 where

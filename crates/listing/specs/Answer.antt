@@ -3,15 +3,15 @@
 use Prim.Native.Nat.{ℕ, suc}
 use mathlib.Core.List.{List, [], _∷_, _++_}
 use lib.ListN.{length}
-use Rattle.cut.specs.Cut.{bounds, windowsOf, decisionOf}
-use Rattle.cut.specs.declared.Bounds.{Bounds}
-use Rattle.cut.specs.declared.Decision.{Decision}
-use Rattle.cut.specs.declared.Decision.the-variants.{Whole, Emptied, StrideRefused, Windows}
-use Rattle.listing.specs.Text.{bytes, numberText}
-use Rattle.listing.specs.Asked.{askedOf}
-use Rattle.listing.specs.declared.Request.{Request}
-use Rattle.listing.specs.declared.Asked.{Asked}
-use Rattle.listing.specs.declared.Asked.the-variants.{BadLine, Cut}
+use Rattle.cut_plan.specs.Cut.{bounds, windowsOf, decisionOf}
+use Rattle.record.specs.declared.Bounds.{Bounds}
+use Rattle.cut_plan.specs.declared.Decision.{Decision}
+use Rattle.cut_plan.specs.declared.Decision.the-variants.{Whole, Emptied, StrideRefused, Windows}
+use Rattle.listing_text.specs.Text.{bytes, numberText}
+use Rattle.listing_request.specs.Asked.{askedOf}
+use Rattle.listing_request.specs.declared.Request.{Request}
+use Rattle.listing_request.specs.declared.Asked.{Asked}
+use Rattle.listing_request.specs.declared.Asked.the-variants.{BadLine, Cut}
 
 -- "Max 0 with rows prints two windows, the first `0 0 0`": the other is the whole former encoding
 abbrev pub windowsBy : Decision → Request → List Bounds

@@ -1,4 +1,2 @@
-pub mod Text
-pub mod Asked
 pub mod Answer
-pub mod Writing
+pub mod Contracts

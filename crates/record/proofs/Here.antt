@@ -9,7 +9,7 @@ use lib.Seq.{take-at}
 use Rattle.record.specs.Tree.{Row, Range, Forest, none, node}
 use Rattle.record.specs.Flat.{rowWidth, nodeWidth, rowNumbers, flatNodes, flatRows}
 use Rattle.record.specs.WellFormed.{nodesIn, rowsIn}
-use Rattle.record.specs.Standing.{At, Here, RowsAt}
+use Rattle.record.specs.Standing.{Here, RowsAt}
 use Rattle.record.proofs.Flat.{length-nodes, length-rows}
 use Rattle.record.proofs.Standing.{at-size, at-below, at-next}
 

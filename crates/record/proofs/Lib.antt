@@ -1,13 +1,16 @@
 pub mod Tree
+pub mod Several
 pub mod Flat
 pub mod WellFormed
 pub mod Read
 pub mod Samples
 pub mod Standing
 pub mod Here
-pub mod Sets
 pub mod Put
 pub mod One
 pub mod OneOrTwo
 pub mod Outcome
 pub mod Walk
+pub mod Passing
+pub mod Counts
+pub mod Working

@@ -1,22 +1,21 @@
 -- A batch of one encoding: what `read` says of it, and its numbers by their places.
 -- Assumes nothing.
 use mathlib.Core.Path.{_≡_, refl, sym, ap, _∙_, subst}
-use mathlib.Core.Bool.{Bool, true, false, false≢true}
-use Prim.Native.Nat.{ℕ, zero, suc, _+_, _*_, _≤_, _<_}
-use native.Mathlib.Nat.{zero-add}
+use mathlib.Core.Bool.{true, false, false≢true}
+use Prim.Native.Nat.{ℕ, suc, _+_, _*_, _≤_, _<_}
 use native.Mathlib.Omega.{arith}
 use mathlib.Core.List.{List, [], _∷_}
 use lib.Dec.{eqb}
 use lib.ListN.{length, getD}
 use borrow.Author.Tests.{ne-eqb}
-use Rattle.record.specs.Tree.{Row, Range, Forest, Encoding, listed, forest, sequences}
-use Rattle.record.specs.Flat.{rowWidth, nodeWidth, rowNumbers, rangeNumbers}
-use Rattle.record.specs.WellFormed.{NodeFine, Stores, rowsIn, nodesIn, mostRows}
+use Rattle.record.specs.Tree.{Range, Encoding, listed, forest, sequences}
+use Rattle.record.specs.Flat.{rowWidth, nodeWidth, rangeNumbers}
+use Rattle.record.specs.WellFormed.{NodeFine, Stores}
 use Rattle.record.specs.Read.{Reading, malformed, holds, read, sole, ofOne, isOne}
 use Rattle.record.specs.Standing.{At, One}
 use Rattle.record.proofs.Tree.{forest-listed}
 use Rattle.record.proofs.Flat.{length-nodes, length-rows}
-use Rattle.record.proofs.Standing.{at-top, at-size, at-count, at-range, at-row}
+use Rattle.record.proofs.Standing.{at-top, at-size, at-range}
 use Rattle.record.proofs.Read.{found, stored}
 
 -- ---- Reading one encoding
@@ -66,9 +65,6 @@ module _ {nodes rows : List ℕ} {E : Encoding} (h : One nodes rows E) where
   pub one-at : At nodes rows 0 0 (forest (E ∷ []))
   one-at = at-top nodes rows (forest (E ∷ [])) (h .stores)
 
-  pub one-few-rows : length (E .rows) ≤ mostRows
-  one-few-rows = omega (arith, h .stores .well .fits .few-rows)
-
   pub one-nodes-long : nodeWidth ≤ length nodes
   one-nodes-long = omega (arith, ap length (h .stores .nodes-are), length-nodes (forest (E ∷ [])) (h .stores .well .fine))
 
@@ -83,9 +79,3 @@ module _ {nodes rows : List ℕ} {E : Encoding} (h : One nodes rows E) where
   one-range k m d a b =
       let z : 0 + (2 + (k * 3 + m)) ≡ 2 + (k * 3 + m) = omega arith in
       ap (λ (i : ℕ). getD nodes i 0) (sym z) ∙ at-range one-at one-fine k m d a b
-
-  -- number m of row k
-  pub one-row : (k m : ℕ) (d : Row) → k < length (E .rows) → m < rowWidth → getD rows (k * rowWidth + m) 0 ≡ getD (rowNumbers (getD (E .rows) k d)) m 0
-  one-row k m d a b =
-      let z : 0 + (k * rowWidth + m) ≡ k * rowWidth + m = omega arith in
-      ap (λ (i : ℕ). getD rows i 0) (sym z) ∙ at-row one-at k m d a b

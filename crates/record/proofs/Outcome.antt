@@ -1,6 +1,6 @@
 -- When a result has room, and how an operation that writes meets its promise.
 -- Assumes nothing.
-use mathlib.Core.Path.{_≡_, refl, sym, ap, _∙_, subst}
+use mathlib.Core.Path.{_≡_, refl, ap, _∙_}
 use mathlib.Core.Bool.{Bool, true, false, _&&_, cond}
 use Prim.Native.Nat.{ℕ, _*_, _≤_}
 use native.Mathlib.Omega.{arith}
@@ -13,13 +13,13 @@ use Rattle.record.specs.Flat.{rowWidth, nodeWidth, flatNodes, flatRows}
 use Rattle.record.specs.WellFormed.{Fine, Fits, nodesIn, rowsIn}
 use Rattle.record.specs.Read.{fitsOk}
 use Rattle.record.specs.Refusals.{numberOf}
-use Rattle.record.specs.Outcome.{Outcome, refused, done, inRoom, Room, left, answered, afterRefusal, Writes}
+use Rattle.record.specs.Outcome.{Outcome, refused, done, inRoom, Room, left, afterRefusal, Writes}
 use Rattle.record.specs.declared.Refusal.{Refusal}
 use Rattle.record.specs.declared.Refusal.the-variants.{NoRoom}
 use Rattle.record.specs.declared.Written.{Written}
 use Rattle.record.specs.declared.Written.the-variants.{Refused, Done}
 use Rattle.record.proofs.Flat.{length-nodes, length-rows}
-use Rattle.record.proofs.Sets.{sets-over}
+use Rattle.lists.proofs.Sets.{sets-over}
 use Rattle.record.proofs.WellFormed.{Tells, tells-le, tells-and₃, tells-fits}
 
 tells-room : (nodes rows : List ℕ) (f : Forest) → Tells (fitsOk f && (leb (nodesIn f * nodeWidth) (length nodes) && leb (rowsIn f * rowWidth) (length rows))) (Fits f × (nodesIn f * nodeWidth ≤ length nodes) × (rowsIn f * rowWidth ≤ length rows))

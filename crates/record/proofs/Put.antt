@@ -9,7 +9,7 @@ use Rattle.record.specs.Tree.{Encoding, forest}
 use Rattle.record.specs.Flat.{flatNodes, flatRows}
 use Rattle.record.specs.Standing.{Put}
 use Rattle.record.proofs.Flat.{flatNodes-append, flatRows-append}
-use Rattle.record.proofs.Sets.{sets-append}
+use Rattle.lists.proofs.Sets.{sets-append}
 
 pub put-none : (nodes rows : List ℕ) (a b : ℕ) → Put [] nodes a rows b nodes rows
 unfolding flatNodes flatRows

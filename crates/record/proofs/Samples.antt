@@ -1,13 +1,11 @@
 -- Small batches, read by computing.
 -- Assumes nothing.
 use mathlib.Core.Path.{_≡_, refl}
-use mathlib.Core.Bool.{Bool, true, false}
-use mathlib.Core.List.{List, [], _∷_, _++_, flatMap}
-use Prim.Native.Nat.{ℕ, zero, suc, _*_, _-_}
+use mathlib.Core.List.{[], _∷_, flatMap}
+use Prim.Native.Nat.{ℕ, _*_, _-_}
 use lib.ListN.{replicate}
-use Rattle.record.specs.Tree.{Row, Range, Forest, none, node, sequences, absent}
-use Rattle.record.specs.Flat.{rowWidth, nodeWidth, rowAt, rangeAt, rowNumbers, rangeNumbers, flatNodes, flatRows}
-use Rattle.record.specs.WellFormed.{mostNodes, mostRows, mostLevels}
+use Rattle.record.specs.Tree.{Row, Forest, none, node, sequences, absent}
+use Rattle.record.specs.Flat.{rowAt, rangeAt, rowNumbers, rangeNumbers, flatNodes, flatRows}
 use Rattle.record.specs.Read.{several, test, andThen, one, parse, parseAll, holds, malformed, checked, read, fineOk, fitsOk, wellOk}
 
 row : ℕ → Row

@@ -1,14 +1,15 @@
 -- What is computed says whether a forest is well-formed.
 -- Assumes nothing.
-use mathlib.Core.Path.{_≡_, refl, sym, ap, ap₂, _∙_}
-use Prim.Native.Nat.{ℕ, zero, suc, _≤_}
+use mathlib.Core.Path.{_≡_, refl, sym, ap, ap₂}
+use Prim.Native.Nat.{ℕ, suc, _≤_}
 use mathlib.Core.Bool.{Bool, true, false, _&&_, _||_, false≢true}
 use mathlib.Core.Logic.{_⊎_, inl, inr}
 use mathlib.Core.List.{List, [], _∷_}
 use lib.Dec.{leb, eqb}
 use lib.ListN.{length}
 use borrow.Author.Tests.{leb-true, le-leb, eqb-true, eq-eqb}
-use Rattle.record.specs.Tree.{Row, Range, Forest, none, node, sequences, absent, All}
+use Rattle.record.specs.Tree.{Row, Range, Forest, none, node, sequences}
+use Rattle.lists.specs.Lists.{All}
 use Rattle.record.specs.WellFormed.{RangeFine, RowFine, NodeFine, Fine, Fits, WellFormed, nodesIn, rowsIn, levels, mostNodes, mostRows, mostLevels}
 use Rattle.record.specs.Read.{rangeOk, rowOk, allOk, fineOk, fitsOk, wellOk}
 

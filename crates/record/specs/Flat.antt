@@ -1,6 +1,6 @@
 -- The record as it is lent: two lists of numbers, the nodes and the rows, depth first.
 -- Assumes nothing: these are definitions.
-use Prim.Native.Nat.{ℕ, zero, suc, _+_, _*_}
+use Prim.Native.Nat.{ℕ, _+_, _*_}
 use mathlib.Core.List.{List, [], _∷_, _++_, flatMap}
 use lib.ListN.{length, getD}
 use Rattle.record.specs.Tree.{Row, Range, Forest, none, node, tops, sequences}

@@ -6,3 +6,5 @@ pub mod Standing
 pub mod Refusals
 pub mod Outcome
 pub mod Walk
+pub mod Passing
+pub mod Working

@@ -1,15 +1,16 @@
 -- What an operation that writes answers, and what it leaves in the buffers lent to it: once, for all of them.
 -- Assumes nothing: these are definitions.
 use mathlib.Core.Path.{_≡_}
-use mathlib.Core.Bool.{Bool, true, false, _&&_, cond}
+use mathlib.Core.Bool.{_&&_, cond}
 use Prim.Native.Nat.{ℕ, _*_, _≤_}
 use mathlib.Core.List.{List, [], _∷_, _++_}
 use lib.Dec.{leb, eqb}
-use lib.ListN.{length, drop, replicate}
+use lib.ListN.{length, drop}
 use Rattle.record.specs.Tree.{Forest}
 use Rattle.record.specs.Flat.{rowWidth, nodeWidth, flatNodes, flatRows}
 use Rattle.record.specs.WellFormed.{Fits, nodesIn, rowsIn}
 use Rattle.record.specs.Read.{fitsOk}
+use Rattle.lists.specs.Lists.{zeros}
 use Rattle.record.specs.Refusals.{numberOf}
 use Rattle.record.specs.declared.Refusal.{Refusal}
 use Rattle.record.specs.declared.Refusal.the-variants.{NoRoom}
@@ -50,9 +51,6 @@ countsOr was (Refused k) = was
 countsOr was (Done n r) = n ∷ r ∷ []
 
 -- ---- The buffers
-
-abbrev pub zeros : List ℕ → List ℕ
-zeros was = replicate (length was) 0
 
 -- "A refusal changes no buffer, save 6"; "6 leaves output and working store all zeros"
 abbrev pub afterRefusal : Refusal → List ℕ → List ℕ

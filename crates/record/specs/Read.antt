@@ -1,7 +1,7 @@
 -- The encodings that two lists of numbers store, as a computed reading: so a public promise is an equation.
 -- That it reads exactly the well-formed batches, each as the one forest that it stores, is `found` and `stored` of proofs/Read.
 -- Assumes nothing: these are definitions.
-use Prim.Native.Nat.{ℕ, zero, suc, _+_, _*_}
+use Prim.Native.Nat.{ℕ, zero, suc, _*_}
 use mathlib.Core.Bool.{Bool, true, false, _&&_, _||_, cond}
 use mathlib.Core.Option.{Option, none as nothing, some}
 use mathlib.Core.List.{List, [], _∷_}

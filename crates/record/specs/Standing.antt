@@ -9,6 +9,10 @@ use lib.Seq.{sets}
 use Rattle.record.specs.Tree.{Row, Forest, Encoding, forest}
 use Rattle.record.specs.Flat.{rowNumbers, flatNodes, flatRows}
 use Rattle.record.specs.WellFormed.{WellFormed, Stores}
+use Rattle.record.specs.declared.Spot.{Spot}
+
+abbrev pub spot : ℕ → ℕ → Spot
+spot i j = record { node = i; row = j }
 
 -- The nodes from place i on begin with f's, and so do the rows from place j on.
 pub record At (nodes rows : List ℕ) (i j : ℕ) (f : Forest) : Type 0 where

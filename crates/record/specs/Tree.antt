@@ -1,6 +1,6 @@
 -- The record as a tree: rows, ranges, and encodings with their windows (document 01, "The record as it is lent").
 -- Assumes nothing: these are definitions.
-use Prim.Native.Nat.{ℕ, zero, suc, _+_, _*_}
+use Prim.Native.Nat.{ℕ, _+_}
 use mathlib.Core.List.{List, [], _∷_}
 use lib.ListN.{length, replicate}
 
@@ -59,6 +59,10 @@ windows E = listed (E .below)
 abbrev pub encoding : List Row → List Range → List Encoding → Encoding
 encoding r q ws = record { rows = r; ranges = q; below = forest ws }
 
+-- A range n rows further on.
+abbrev pub shifted : ℕ → Range → Range
+shifted n p = record { present = p .present; start = p .start + n; end = p .end + n }
+
 -- The number of encodings at the top.
 abbrev pub tops : Forest → ℕ
 tops f = length (listed f)
@@ -66,8 +70,3 @@ tops f = length (listed f)
 -- The empty encoding: no rows, no ranges, no windows.
 abbrev pub empty : Encoding
 empty = encoding [] (replicate sequences absent) []
-
--- What holds of each element of a list.
-abbrev pub All {ℓ} : {A : Type ℓ} → (A → Type 0) → List A → Type 0
-All M [] = Unit {0}
-All M (x ∷ xs) = M x × All M xs

@@ -2,10 +2,11 @@
 -- Assumes nothing: these are definitions.
 use mathlib.Core.Path.{_≡_}
 use mathlib.Core.Logic.{_⊎_}
-use Prim.Native.Nat.{ℕ, zero, suc, _+_, _≤_, max}
+use Prim.Native.Nat.{ℕ, suc, _+_, _≤_, max}
 use mathlib.Core.List.{List}
 use lib.ListN.{length}
-use Rattle.record.specs.Tree.{Row, Range, Forest, none, node, Encoding, sequences, absent, All}
+use Rattle.record.specs.Tree.{Row, Range, Forest, none, node, Encoding, sequences, absent}
+use Rattle.lists.specs.Lists.{All}
 use Rattle.record.specs.Flat.{flatNodes, flatRows}
 
 -- "marks are 0 or 1 with zeros where absent; each range has start ≤ end ≤ row count"

@@ -1,14 +1,10 @@
 // The encoding record as it is lent (document 01): its widths, limits and columns, the refusals, the answer of the
-// operations that write, and the copying that they share.
-ghost use mathlib.Core.Path.{_≡_};
+// operations that write.
 ghost use mathlib.Core.List.{[], _∷_};
-ghost use Prim.Native.Nat.{_+_, _≤_};
-ghost use lib.ListN.{length, take, drop, replicate};
-ghost use lib.Seq.{sets};
-ghost use Rattle.record.specs.Tree.{forest, empty};
-ghost use Rattle.record.specs.Flat.{rowWidth, nodeWidth, flatNodes};
+ghost use mathlib.Core.Path.{_≡_};
+ghost use Rattle.record.specs.Flat.{nodeWidth, rowWidth, flatNodes};
 ghost use Rattle.record.specs.Refusals.{numberOf};
-ghost use Rattle.record.specs.Outcome.{zeros};
+ghost use Rattle.record.specs.Tree.{forest, empty};
 
 // What an encoding measures. The record itself is two lent slices, nodes and rows.
 pub struct Encoding {}
@@ -78,6 +74,18 @@ pub struct Word(pub u32);
 
 pub struct Place(pub u32);
 
+// A stretch of rows: its first row, and the row after its last.
+pub struct Bounds {
+    pub start: u32,
+    pub end: u32,
+}
+
+// Where an encoding stands: the places of its node and of its rows.
+pub struct Spot {
+    pub node: usize,
+    pub row: usize,
+}
+
 // Why an operation does not do its work, in the order of document 01's numbers.
 pub enum Refusal {
     MalformedRecord,
@@ -128,6 +136,7 @@ pub enum Written {
     Done { nodes: usize, rows: usize },
 }
 
+// The widths, each with the promise that it is the definition's: what ties the constants to specs/.
 pub fn row_width() -> usize
     ensures { λ r. ⌜ r ≡ rowWidth ⌝ }
 {
@@ -138,51 +147,4 @@ pub fn node_width() -> usize
     ensures { λ r. ⌜ r ≡ nodeWidth ⌝ }
 {
     Encoding::NODE_WIDTH
-}
-
-// All of src, into a slice of the same length.
-pub fn copy_whole(src: &[u32], dst: &mut [u32])
-    requires { ⌜ length (now src) ≡ length (now dst) ⌝ }
-    ensures { λ _. ⌜ now (dst .exit) ≡ now (src .entry) ⌝ }
-{
-    let mut i = 0;
-    while i < src.len() {
-        dst[i] = src[i];
-        i += 1;
-    }
-}
-
-// n numbers of src from `from` on, into dst from `at` on. Parts are lent to the copy of the whole, which compiles to a
-// block copy.
-pub fn copy(src: &[u32], from: usize, n: usize, dst: &mut [u32], at: usize)
-    requires { ⌜ (from + n ≤ length (now src)) × (at + n ≤ length (now dst)) ⌝ }
-    ensures { λ _. ⌜ now (dst .exit) ≡ sets (now (dst .entry)) at (take n (drop from (now (src .entry)))) ⌝ }
-{
-    copy_whole(&src[from..from + n], &mut dst[at..at + n]);
-}
-
-// The number v everywhere.
-pub fn fill_whole(dst: &mut [u32], v: u32)
-    ensures { λ _. ⌜ now (dst .exit) ≡ replicate (length (now (dst .entry))) v ⌝ }
-{
-    let mut i = 0;
-    while i < dst.len() {
-        dst[i] = v;
-        i += 1;
-    }
-}
-
-// The number v, n times from `at` on.
-pub fn fill(dst: &mut [u32], at: usize, n: usize, v: u32)
-    requires { ⌜ at + n ≤ length (now dst) ⌝ }
-    ensures { λ _. ⌜ now (dst .exit) ≡ sets (now (dst .entry)) at (replicate n v) ⌝ }
-{
-    fill_whole(&mut dst[at..at + n], v);
-}
-
-// Zeros everywhere: what refusal 6 leaves in an output, and success in a working store.
-pub fn zero(dst: &mut [u32])
-    ensures { λ _. ⌜ now (dst .exit) ≡ zeros (now (dst .entry)) ⌝ }
-{
-    fill_whole(dst, 0);
 }

@@ -2,23 +2,25 @@
 -- Assumes nothing.
 use mathlib.Core.Path.{refl}
 use mathlib.Core.List.{flatMap}
-use Rattle.record.specs.Tree.{All}
-use Rattle.sequences.specs.First.{firstFrom, lastFrom, until}
-use Rattle.sequences.specs.Ranges.{sequenceRange, present, nSequences, tokenToSequence, sequenceAt, column, getSequenceIds}
-use Rattle.lookup.specs.Lookup.{wordRows, wordToTokens}
+use Rattle.lists.specs.Lists.{All}
+use Rattle.lookup_ranges.specs.First.{firstFrom, lastFrom, until}
+use Rattle.lookup_ranges.specs.Ranges.{sequenceRange, present, nSequences, tokenToSequence, sequenceAt, column, getSequenceIds}
+use Rattle.lookup_words.specs.Words.{wordToTokens}
+use Rattle.lookup_search.specs.Searches.{wordRows}
 use Rattle.record.specs.Flat.{rowNumbers, rangeNumbers, flatNodes, flatRows}
 use Rattle.record.specs.Read.{fitsOk}
 use Rattle.record.specs.Outcome.{inRoom}
-use Rattle.cut.specs.Cut.{rightFrom, leftFrom, windowsOf}
-use Rattle.cut.specs.Lengths.{keptBoth}
-use Rattle.truncation.specs.Truncate.{truncated, cutOutcome}
-use Rattle.merge.specs.Join.{join, withEach, eachWith}
-use Rattle.merge.specs.Samples.{lettered, letter, sampleS, sampleP, sampleQ, spelled, spelledWindows}
+use Rattle.cut_plan.specs.Cut.{rightFrom, leftFrom, windowsOf}
+use Rattle.cut_lengths.specs.Lengths.{keptBoth}
+use Rattle.truncate.specs.Truncate.{cutOutcome}
+use Rattle.truncate_write.specs.Truncated.{truncated}
+use Rattle.join_trees.specs.Join.{join, withEach, eachWith}
+use Rattle.join_trees.specs.Samples.{lettered, letter, sampleS, sampleP, sampleQ, spelled, spelledWindows}
 use Rattle.lines.specs.Decimal.{decimalAfter}
-use Rattle.parts.specs.Split.{split}
-use Rattle.pieces.specs.Number.{afterSign, readNumber}
-use Rattle.pieces.specs.Piece.{same, sequenceOf, named, withType, readPart}
-use Rattle.template.specs.Template.{readParts, readTemplate}
+use Rattle.template_parts.specs.Split.{split}
+use Rattle.template_numbers.specs.Number.{afterSign, readNumber}
+use Rattle.template_pieces.specs.Piece.{same, sequenceOf, named, withType, readPart}
+use Rattle.template_text.specs.Template.{readParts, readTemplate}
 use Rattle.samples.specs.Samples.{samples, Holds}
 
 pub hold : All Holds samples

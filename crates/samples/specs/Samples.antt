@@ -7,25 +7,25 @@ use mathlib.Core.Bool.{Bool, true, false}
 use mathlib.Core.List.{List, [], _∷_, _++_, map, flatMap}
 use lib.ListN.{replicate, set}
 use Rattle.record.specs.Tree.{Row, Encoding, encoding, forest, sequences, absent}
-use Rattle.sequences.specs.Ranges.{tokenToSequence, getSequenceIds}
-use Rattle.sequences.specs.declared.Bounds.{Bounds}
-use Rattle.lookup.specs.Lookup.{wordToTokens}
+use Rattle.lookup_ranges.specs.Ranges.{tokenToSequence, getSequenceIds}
+use Rattle.record.specs.declared.Bounds.{Bounds, Bounds as Stretch}
+use Rattle.lookup_words.specs.Words.{wordToTokens}
 use Rattle.record.specs.Flat.{rowWidth, nodeWidth, flatNodes, flatRows}
 use Rattle.record.specs.WellFormed.{nodesIn}
 use Rattle.record.specs.Refusals.{numberOf}
 use Rattle.record.specs.Outcome.{Outcome, refused, done}
-use Rattle.cut.specs.Cut.{windowsOf}
-use Rattle.cut.specs.Lengths.{keptLengths, refusalOf, firstOf, secondOf}
-use Rattle.cut.specs.declared.Bounds.{Bounds as Stretch}
-use Rattle.cut.specs.declared.Direction.the-variants.{Left, Right}
-use Rattle.cut.specs.declared.Strategy.the-variants.{LongestFirst}
-use Rattle.cut.specs.declared.Second.the-variants.{Rows}
-use Rattle.cut.specs.declared.Kept.{Kept}
-use Rattle.windows.specs.Made.{plain}
-use Rattle.truncation.specs.Truncate.{truncated, cutOutcome}
-use Rattle.merge.specs.Join.{join}
-use Rattle.template.specs.Template.{readTemplate, readingNumbers}
-use Rattle.merge.specs.Samples.{sampleS, sampleP, sampleQ, spelledWindows}
+use Rattle.cut_plan.specs.Cut.{windowsOf}
+use Rattle.cut_lengths.specs.Lengths.{keptLengths, keptRefusal, firstOf, secondOf}
+use Rattle.cut_plan.specs.declared.Direction.the-variants.{Left, Right}
+use Rattle.cut_lengths.specs.declared.Strategy.the-variants.{LongestFirst}
+use Rattle.cut_lengths.specs.declared.Second.the-variants.{Rows}
+use Rattle.cut_lengths.specs.declared.Kept.{Kept}
+use Rattle.cut_windows.specs.Made.{plain}
+use Rattle.truncate.specs.Truncate.{cutOutcome}
+use Rattle.truncate_write.specs.Truncated.{truncated}
+use Rattle.join_trees.specs.Join.{join}
+use Rattle.template_text.specs.Template.{readTemplate, readingNumbers}
+use Rattle.join_trees.specs.Samples.{sampleS, sampleP, sampleQ, spelledWindows}
 
 -- What a definition says of an input, as numbers, and what the sample says.
 pub record Sample : Type 0 where
@@ -86,7 +86,7 @@ flat E = flatNodes (forest (E ∷ [])) ++ flatRows (forest (E ∷ []))
 
 -- the rows kept of a pair
 abbrev pub keptNumbers : Kept → List ℕ
-keptNumbers k = refusalOf k ∷ firstOf k ∷ secondOf k ∷ []
+keptNumbers k = keptRefusal k ∷ firstOf k ∷ secondOf k ∷ []
 
 -- ---- The list
 

@@ -16,14 +16,15 @@ use Rattle.record.specs.Outcome.{refused}
 use Rattle.record.specs.declared.Refusal.{Refusal}
 use Rattle.record.specs.declared.Refusal.the-variants.{MalformedRecord, SecondMissing, TooShort}
 use Rattle.record.proofs.OneOrTwo.{one-or-two-of, not-one-or-two}
-use Rattle.cut.specs.Lengths.{keptLengths}
-use Rattle.cut.specs.declared.Direction.{Direction}
-use Rattle.cut.specs.declared.Strategy.{Strategy}
-use Rattle.cut.specs.declared.Kept.{Kept}
-use Rattle.cut.specs.declared.Kept.the-variants.{Refused, Alone, Both}
-use Rattle.cut.proofs.Keeping.{Answers, lengths-answer}
-use Rattle.truncation.specs.Truncate.{cutOutcome}
-use Rattle.truncate_pair.specs.TruncatePair.{rowsOfSecond, cutBothOutcome, cutPairOutcome, unlessRefused, truncatePairOutcome}
+use Rattle.cut_lengths.specs.Lengths.{keptLengths}
+use Rattle.cut_plan.specs.declared.Direction.{Direction}
+use Rattle.cut_lengths.specs.declared.Strategy.{Strategy}
+use Rattle.cut_lengths.specs.declared.Kept.{Kept}
+use Rattle.cut_lengths.specs.declared.Kept.the-variants.{Refused, Alone, Both}
+use Rattle.cut_lengths.proofs.Keeping.{Answers, lengths-answer}
+use Rattle.truncate.specs.Truncate.{cutOutcome}
+use Rattle.truncate_pair.specs.TruncatePair.{rowsOfSecond, cutPairOutcome, unlessRefused, truncatePairOutcome}
+use Rattle.truncate_two.specs.CutBoth.{cutBothOutcome}
 
 pub outcome-malformed : (out out′ : List ℕ) (most stride : ℕ) (s : Strategy) (d : Direction) (r : Reading) → isOneOrTwo r ≡ false → truncatePairOutcome out out′ most stride s d r ≡ refused MalformedRecord
 unfolding truncatePairOutcome

@@ -11,11 +11,11 @@ use Rattle.record.specs.Tree.{Encoding, forest}
 use Rattle.record.specs.Flat.{nodeWidth}
 use Rattle.record.specs.Standing.{OneOrTwo}
 use Rattle.record.proofs.Here.{here-nodes-fit, here-size}
-use Rattle.extent.specs.Size.{sizeOf}
-use Rattle.extent.specs.declared.Extent.{Extent}
-use Rattle.extent.proofs.Pair.{pair-here, second-here, second-ends}
+use Rattle.record_extent.specs.Size.{sizeOf}
+use Rattle.record_extent.specs.declared.Extent.{Extent}
+use Rattle.record_extent.proofs.Pair.{pair-here, second-here, second-ends}
 use Rattle.truncate_pair.specs.TruncatePair.{rowsOfSecond}
-use Rattle.truncate_pair.specs.Writing.{rowsAt}
+use Rattle.truncate_pair.specs.Contracts.{rowsAt}
 
 -- its row count is what stands there
 pub second-at : {nodes rows : List ℕ} {E : Encoding} (second : Option Encoding) → OneOrTwo nodes rows E second → {own : Extent} → own ≡ sizeOf (forest (E ∷ [])) → rowsAt nodes (own .nodes * nodeWidth) ≡ rowsOfSecond second

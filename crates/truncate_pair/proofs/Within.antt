@@ -7,29 +7,33 @@ use Prim.Native.Nat.{ℕ, _+_, _≤_}
 use native.Mathlib.Omega.{arith}
 use mathlib.Core.List.{List, [], _∷_, map}
 use lib.ListN.{length}
-use Rattle.record.specs.Tree.{Forest, none, node, Encoding, listed, forest, All}
+use Rattle.record.specs.Tree.{Forest, none, node, Encoding, listed, forest}
+use Rattle.lists.specs.Lists.{All}
 use Rattle.record.specs.Read.{Reading, malformed, holds, oneOrTwo, ofOneOrTwo}
 use Rattle.record.specs.Outcome.{Outcome, refused, done, inRoom}
 use Rattle.record.specs.declared.Refusal.the-variants.{MalformedRecord, NoRoom, Stride}
-use Rattle.cut.specs.Cut.{windowsOf, decisionOf}
-use Rattle.cut.specs.Lengths.{keptLengths}
-use Rattle.cut.specs.declared.Bounds.{Bounds}
-use Rattle.cut.specs.declared.Direction.{Direction}
-use Rattle.cut.specs.declared.Strategy.{Strategy}
-use Rattle.cut.specs.declared.Decision.{Decision}
-use Rattle.cut.specs.declared.Decision.the-variants.{Whole, Emptied, StrideRefused, Windows}
-use Rattle.cut.specs.declared.Kept.{Kept}
-use Rattle.cut.specs.declared.Kept.the-variants.{Refused, Alone, Both}
-use Rattle.cut.proofs.Laws.{Sized, windows-sized}
-use Rattle.cut.proofs.Decides.{Says, decided}
-use Rattle.cut.proofs.Keeping.{AtMost, Answers, lengths-answer, lengths-at-most}
-use Rattle.extent.specs.Size.{sizeOf, roomy}
-use Rattle.extent.proofs.Room.{room-by-size}
-use Rattle.windows.specs.Made.{part, gathered}
-use Rattle.windows.proofs.Parts.{size-part}
-use Rattle.truncation.specs.Truncate.{truncated, strideRefused, cutOutcome}
-use Rattle.truncation.proofs.Sizes.{truncated-whole, truncated-emptied, truncated-cut, not-refused}
-use Rattle.truncate_pair.specs.TruncatePair.{rowsOfSecond, cutBothOutcome, cutPairOutcome, unlessRefused, truncatePairOutcome}
+use Rattle.cut_plan.specs.Cut.{windowsOf, decisionOf}
+use Rattle.cut_lengths.specs.Lengths.{keptLengths}
+use Rattle.record.specs.declared.Bounds.{Bounds}
+use Rattle.cut_plan.specs.declared.Direction.{Direction}
+use Rattle.cut_lengths.specs.declared.Strategy.{Strategy}
+use Rattle.cut_plan.specs.declared.Decision.{Decision}
+use Rattle.cut_plan.specs.declared.Decision.the-variants.{Whole, Emptied, StrideRefused, Windows}
+use Rattle.cut_lengths.specs.declared.Kept.{Kept}
+use Rattle.cut_lengths.specs.declared.Kept.the-variants.{Refused, Alone, Both}
+use Rattle.cut_plan.proofs.Laws.{Sized, windows-sized}
+use Rattle.cut_plan.proofs.Decides.{Says, decided}
+use Rattle.cut_lengths.proofs.Keeping.{AtMost, Answers, lengths-answer, lengths-at-most}
+use Rattle.record_extent.specs.Size.{sizeOf, roomy}
+use Rattle.record_extent.proofs.Room.{room-by-size}
+use Rattle.cut_windows.specs.Made.{part, gathered}
+use Rattle.cut_windows.proofs.Parts.{size-part}
+use Rattle.truncate.specs.Truncate.{cutOutcome}
+use Rattle.truncate_size.specs.Size.{strideRefused}
+use Rattle.truncate_write.specs.Truncated.{truncated}
+use Rattle.truncate_write.proofs.Sizes.{truncated-whole, truncated-emptied, truncated-cut, not-refused}
+use Rattle.truncate_pair.specs.TruncatePair.{rowsOfSecond, cutPairOutcome, unlessRefused, truncatePairOutcome}
+use Rattle.truncate_two.specs.CutBoth.{cutBothOutcome}
 
 -- ---- What a cut keeps
 

@@ -1,3 +1,2 @@
 pub mod TruncatePair
-pub mod Size
-pub mod Writing
+pub mod Contracts

@@ -1,33 +1,27 @@
 -- One or two encodings cut to a number of rows together (document 01, "Truncate pair").
 -- Assumes nothing: these are definitions.
 use Prim.Native.Nat.{ℕ}
-use mathlib.Core.Bool.{_||_, cond}
 use mathlib.Core.Option.{Option, none as nothing, some}
-use mathlib.Core.List.{List, [], _∷_}
+use mathlib.Core.List.{List}
 use lib.ListN.{length}
-use Rattle.record.specs.Tree.{Encoding, forest}
+use Rattle.record.specs.Tree.{Encoding}
 use Rattle.record.specs.Read.{Reading, ofOneOrTwo}
-use Rattle.record.specs.Outcome.{Outcome, refused, inRoom}
-use Rattle.record.specs.declared.Refusal.the-variants.{MalformedRecord, Stride}
-use Rattle.cut.specs.Lengths.{keptLengths}
-use Rattle.cut.specs.declared.Direction.{Direction}
-use Rattle.cut.specs.declared.Strategy.{Strategy}
-use Rattle.cut.specs.declared.Second.{Second}
-use Rattle.cut.specs.declared.Second.the-variants.{Missing, Rows}
-use Rattle.cut.specs.declared.Kept.{Kept}
-use Rattle.cut.specs.declared.Kept.the-variants.{Refused, Alone, Both}
-use Rattle.truncation.specs.Truncate.{truncated, strideRefused, cutOutcome}
+use Rattle.record.specs.Outcome.{Outcome, refused}
+use Rattle.record.specs.declared.Refusal.the-variants.{MalformedRecord}
+use Rattle.cut_lengths.specs.Lengths.{keptLengths}
+use Rattle.cut_plan.specs.declared.Direction.{Direction}
+use Rattle.cut_lengths.specs.declared.Strategy.{Strategy}
+use Rattle.cut_lengths.specs.declared.Second.{Second}
+use Rattle.cut_lengths.specs.declared.Second.the-variants.{Missing, Rows}
+use Rattle.cut_lengths.specs.declared.Kept.{Kept}
+use Rattle.cut_lengths.specs.declared.Kept.the-variants.{Refused, Alone, Both}
+use Rattle.truncate.specs.Truncate.{cutOutcome}
+use Rattle.truncate_two.specs.CutBoth.{cutBothOutcome}
 
 -- the row count of the second, if there is one
 abbrev pub rowsOfSecond : Option Encoding → Second
 rowsOfSecond nothing = Missing
 rowsOfSecond (some F) = Rows (length (F .rows))
-
--- "3 (either encoding), 2": two encodings, of which n and m rows are kept, in an output of the two lists
-unfoldable pub cutBothOutcome : List ℕ → List ℕ → ℕ → ℕ → ℕ → Direction → Encoding → Encoding → Outcome
-cutBothOutcome nodes rows n m stride d E F =
-    cond (strideRefused (length (E .rows)) n stride || strideRefused (length (F .rows)) m stride) (refused Stride)
-    (inRoom nodes rows (forest (truncated n stride d E ∷ truncated m stride d F ∷ [])))
 
 -- one encoding, of which n rows are kept, or two
 abbrev pub cutPairOutcome : List ℕ → List ℕ → ℕ → Direction → Encoding → Option Encoding → ℕ → ℕ → Outcome

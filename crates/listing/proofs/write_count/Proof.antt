@@ -1,8 +1,8 @@
 -- `write_count` writes the word and the number. Assumes nothing.
 use native.Mathlib.Omega.{arith}
 use borrow.Author.Needs.{needs}
-use Rattle.listing.proofs.Text.{number-few}
-use Rattle.listing.proofs.Wrote.{wrote-then, wrote-as, wrote-long}
+use Rattle.listing_text.proofs.Text.{number-few}
+use Rattle.listing_text.proofs.Wrote.{wrote-then, wrote-as, wrote-long}
 use Rattle.listing.proofs.Lines.{count-fields}
 use Rattle.listing.proofs.write_count.Statement.{statement}
 use Rattle.listing.proofs.write_count.Tie as tie

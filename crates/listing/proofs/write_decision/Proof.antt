@@ -2,7 +2,7 @@
 use mathlib.Core.Path.{sym, ap, _∙_}
 use borrow.Author.Needs.{needs}
 use Rattle.listing.specs.Answer.{countLine}
-use Rattle.listing.proofs.Wrote.{wrote-as}
+use Rattle.listing_text.proofs.Wrote.{wrote-as}
 use Rattle.listing.proofs.Choosing.{first-by}
 use Rattle.listing.proofs.write_decision.Statement.{statement}
 use Rattle.listing.proofs.write_decision.Tie as tie

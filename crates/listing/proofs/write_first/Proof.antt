@@ -2,7 +2,7 @@
 use mathlib.Core.Path.{sym, ap, _∙_}
 use borrow.Author.Needs.{needs}
 use Rattle.listing.specs.Answer.{firstLine}
-use Rattle.listing.proofs.Wrote.{wrote-as}
+use Rattle.listing_text.proofs.Wrote.{wrote-as}
 use Rattle.listing.proofs.Choosing.{first-bad}
 use Rattle.listing.proofs.write_first.Statement.{statement}
 use Rattle.listing.proofs.write_first.Tie as tie

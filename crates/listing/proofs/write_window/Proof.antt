@@ -1,8 +1,8 @@
 -- `write_window` writes three numbers, each with the byte after it. Assumes nothing.
 use native.Mathlib.Omega.{arith}
 use borrow.Author.Needs.{needs}
-use Rattle.listing.proofs.Text.{number-few}
-use Rattle.listing.proofs.Wrote.{wrote-then, wrote-as, wrote-long}
+use Rattle.listing_text.proofs.Text.{number-few}
+use Rattle.listing_text.proofs.Wrote.{wrote-then, wrote-as, wrote-long}
 use Rattle.listing.proofs.Lines.{length-field, window-fields}
 use Rattle.listing.proofs.write_window.Statement.{statement}
 use Rattle.listing.proofs.write_window.Tie as tie

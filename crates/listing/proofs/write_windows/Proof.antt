@@ -6,7 +6,7 @@ use Prim.Native.Nat.{_-_}
 use native.Mathlib.Omega.{arith}
 use borrow.Author.Needs.{needs}
 use Rattle.listing.specs.Answer.{windowLine}
-use Rattle.listing.proofs.Wrote.{wrote-as}
+use Rattle.listing_text.proofs.Wrote.{wrote-as}
 use Rattle.listing.proofs.Lines.{Listing, listing-none, listing-long, listing-more, listing-ends}
 use Rattle.listing.proofs.write_windows.Statement.{statement}
 use Rattle.listing.proofs.write_windows.Tie as tie

@@ -14,12 +14,12 @@ use Rattle.record.specs.declared.Refusal.the-variants.{MalformedRecord}
 use Rattle.record.proofs.Here.{here-nodes-fit, here-size}
 use Rattle.record.proofs.OneOrTwo.{one-or-two-there}
 use Rattle.record.proofs.Outcome.{writes-refused}
-use Rattle.cut.specs.Lengths.{keptLengths}
-use Rattle.cut.specs.declared.Second.{Second}
-use Rattle.extent.specs.Size.{sizeOf}
-use Rattle.extent.proofs.Stands.{here-stands}
+use Rattle.cut_lengths.specs.Lengths.{keptLengths}
+use Rattle.cut_lengths.specs.declared.Second.{Second}
+use Rattle.record_extent.specs.Size.{sizeOf}
+use Rattle.record_extent.proofs.Stands.{here-stands}
 use Rattle.truncate_pair.specs.TruncatePair.{rowsOfSecond}
-use Rattle.extent.proofs.Pair.{first-here, few-held}
+use Rattle.record_extent.proofs.Pair.{first-here, few-held}
 use Rattle.truncate_pair.proofs.Pair.{second-at}
 use Rattle.truncate_pair.proofs.Keeping.{outcome-malformed, kept-refused, kept-alone, kept-both}
 use Rattle.truncate_pair.proofs.truncate_encodings.Statement.{statement}

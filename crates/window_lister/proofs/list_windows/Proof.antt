@@ -4,7 +4,7 @@ use Prim.Native.Nat.{_-_}
 use native.Mathlib.Omega.{arith}
 use lib.ListN.{length}
 use borrow.Author.Needs.{needs}
-use Rattle.listing.specs.Writing.{Ready}
+use Rattle.listing.specs.Contracts.{Ready}
 use Rattle.listing.proofs.Lines.{lists-move}
 use Rattle.window_lister.proofs.list_windows.Statement.{statement}
 use Rattle.window_lister.proofs.list_windows.Tie as tie

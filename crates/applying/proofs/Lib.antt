@@ -1,4 +1,0 @@
-pub mod Encodings
-pub mod Taking
-pub mod Along
-pub mod Deciding

@@ -1,2 +1,0 @@
-pub mod Applying
-pub mod Taking

@@ -1,3 +1,0 @@
-pub mod Fine
-pub mod Built
-pub mod Answers

@@ -1,0 +1,57 @@
+// The C interface of the template processor. The function returns the number of its refusal, 0 for none, and gives its values
+// through lent numbers, which a refusal leaves as they were. include/noddrefyr.h is made from this file too.
+ghost use Rattle.c_crossing.specs.Crossing.{WritesOutWith};
+ghost use Rattle.process_check.specs.Process.{textFor, processOutcome};
+ghost use Rattle.record.specs.Read.{read};
+ghost use Rattle.template_entries.specs.Table.{readTable};
+ghost use Rattle.template_text.specs.Template.{readTemplate};
+
+// One or two encodings put together as the template for one or for two says, special tokens added or left out, written to the
+// output; written is its nodes and its rows. Encoding i gets sequence id i; a template that is not set is `$0`, or
+// `$A:0 $B:1`. The working store takes as much as the output and is all zeros afterwards. Refused with 1, 15, 12, 8, 7, 11
+// (B without a second encoding), 10 (only where special tokens are added), 2.
+#[no_mangle]
+pub extern "C" fn noddrefyr_process<'a>(
+    nodes: &[u32],
+    rows: &[u32],
+    single_set: bool,
+    single: &'a [u8],
+    pair_set: bool,
+    pair: &'a [u8],
+    entries: &[u32],
+    members: &[u32],
+    added: &[u8],
+    add_special_tokens: bool,
+    out_nodes: &mut [u32],
+    out_rows: &mut [u32],
+    working_nodes: &mut [u32],
+    working_rows: &mut [u32],
+    written: &mut [usize; 2],
+) -> u32
+    ensures { λ r. ⌜ WritesOutWith
+        (processOutcome (readTable (now (entries .entry)) (now (members .entry)) (now (added .entry)))
+        (λ which. readTemplate (textFor «single_set» (now (single .entry)) «pair_set» (now (pair .entry)) which))
+        «add_special_tokens» (read (now (nodes .entry)) (now (rows .entry))) (now («out_nodes» .entry))
+        (now («out_rows» .entry)) (now («working_nodes» .entry)) (now («working_rows» .entry)))
+        r (now (written .entry)) (now (written .exit)) (now («out_nodes» .entry)) (now («out_rows» .entry))
+        (now («working_nodes» .entry)) (now («working_rows» .entry)) (now («out_nodes» .exit))
+        (now («out_rows» .exit)) (now («working_nodes» .exit)) (now («working_rows» .exit)) ⌝ }
+{
+    let answer = process::process(
+        nodes,
+        rows,
+        single_set,
+        single,
+        pair_set,
+        pair,
+        entries,
+        members,
+        added,
+        add_special_tokens,
+        out_nodes,
+        out_rows,
+        working_nodes,
+        working_rows,
+    );
+    c_crossing::told(answer, written)
+}

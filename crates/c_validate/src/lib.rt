@@ -1,0 +1,84 @@
+// The C interface of the check of templates and of counting what they add. Each function returns the number of its refusal, 0
+// for none, and gives its values through lent numbers, which a refusal leaves as they were. include/noddrefyr.h is made from
+// this file too.
+ghost use mathlib.Core.List.{[], _∷_};
+ghost use mathlib.Core.Path.{_≡_};
+ghost use Rattle.c_crossing.specs.Crossing.{Crosses};
+ghost use Rattle.c_validate.specs.Answers.{addedCrossed};
+ghost use Rattle.c_validate.specs.Options.{whichOf};
+ghost use Rattle.template_entries.specs.Table.{readTable};
+ghost use Rattle.template_text.specs.Template.{readTemplate};
+ghost use Rattle.template_text.specs.Used.{textUsed};
+ghost use Rattle.template_validate.specs.Validation.{validity, validityRefusal};
+ghost use Rattle.template_walk.specs.Counting.{addedAnswer};
+use template_known::Validity;
+use template_text::Which;
+use template_walk::CountAnswer;
+
+// Whether a template for one encoding and one for a pair can be used with a special table. One that is not set is `$0`, or
+// `$A:0 $B:1`, whatever its text. Refused with 15, 12, then 8 and 7 for the single, 8 and 7 for the pair, 9, 10.
+#[no_mangle]
+pub extern "C" fn noddrefyr_validate(
+    single_set: bool,
+    single: &[u8],
+    pair_set: bool,
+    pair: &[u8],
+    entries: &[u32],
+    members: &[u32],
+    added: &[u8],
+) -> u32
+    ensures { λ r. ⌜ r ≡
+        validityRefusal
+        (validity (readTable (now (entries .entry)) (now (members .entry)) (now (added .entry)))
+        (readTemplate (textUsed «single_set» (now (single .entry)) Which.Single))
+        (readTemplate (textUsed «pair_set» (now (pair .entry)) Which.Pair))) ⌝ }
+{
+    let found = template_validate::validate(
+        single_set,
+        single,
+        pair_set,
+        pair,
+        entries,
+        members,
+        added,
+    );
+    match found {
+        Validity::Valid => 0,
+        Validity::Refused(k) => k.number(),
+    }
+}
+
+pub fn which_of(is_pair: bool) -> Which
+    ensures { λ r. ⌜ r ≡ whichOf «is_pair» ⌝ }
+{
+    if is_pair { Which::Pair } else { Which::Single }
+}
+
+// How many tokens a template adds, where an unknown special id adds none; one that is not set is `$0`, or `$A:0 $B:1` if it is
+// the pair's. Refused with 15, 12, 8, 7.
+#[no_mangle]
+pub extern "C" fn noddrefyr_count_added(
+    set: bool,
+    text: &[u8],
+    is_pair: bool,
+    entries: &[u32],
+    members: &[u32],
+    added: &[u8],
+    count: &mut u64,
+) -> u32
+    ensures { λ r. ⌜ Crosses
+        (addedCrossed (now (count .entry) ∷ [])
+        (addedAnswer (readTable (now (entries .entry)) (now (members .entry)) (now (added .entry)))
+        (readTemplate (textUsed set (now (text .entry)) (whichOf «is_pair»)))))
+        r (now (count .exit) ∷ []) ⌝ }
+{
+    let which = which_of(is_pair);
+    let found = template_validate::count_added(set, text, which, entries, members, added);
+    match found {
+        CountAnswer::Refused(k) => k.number(),
+        CountAnswer::Count(sum) => {
+            *count = sum;
+            0
+        }
+    }
+}

@@ -1,5 +1,0 @@
-mod Answers
-mod Bytes
-mod Gathering
-mod Parts
-mod Samples

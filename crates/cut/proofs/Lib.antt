@@ -1,6 +1,0 @@
-pub mod Ceiling
-pub mod Windows
-pub mod Laws
-pub mod Decides
-pub mod Shares
-pub mod Keeping

@@ -1,0 +1,4 @@
+pub mod Ceiling
+pub mod Windows
+pub mod Laws
+pub mod Decides

@@ -1,3 +1,0 @@
-pub mod Windowless
-pub mod Going
-pub mod Deciding

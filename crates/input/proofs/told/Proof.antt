@@ -1,0 +1,15 @@
+-- `told`: a line that is not too long lies within its buffer. Assumes nothing.
+use mathlib.Core.Path.{sym}
+use lib.Seq.{length-take-le}
+use borrow.Author.Needs.{needs}
+use Rattle.input.proofs.told.Statement.{statement}
+use Rattle.input.proofs.told.Tie as tie
+
+returns : tie.Need-returns
+returns c = search needs
+
+returns-2 : tie.Need-returns-2
+returns-2 c = (c .if2 .left, sym (length-take-le _ _ (c .if2 .left)))
+
+pub told-spec : {M : Type 1} → statement M
+told-spec = tie.close (tie.spec returns returns-2)

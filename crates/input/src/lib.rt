@@ -1,0 +1,156 @@
+// Standard input and output for programs: lines, gathered from pieces of the input, and bytes printed.
+//
+// A read that fails is met in `read_piece` alone, a write that fails in `print` and `print_number` alone. A program is a loop
+// over `next_line`.
+ghost use mathlib.Core.Path.{_≡_};
+ghost use Prim.Native.Nat.{_≤_};
+ghost use Rattle.io.specs.Counts.{Counts};
+use libc::STDIN_FILENO;
+use libc::STDOUT_FILENO;
+
+const NEWLINE: u8 = b'\n';
+
+// How many bytes are read at once, at most.
+pub const PIECE: usize = 65536;
+
+// What is read and not yet taken: the bytes of the piece from `at` up to `end`. The input is open until a read gives nothing,
+// because it has ended or because it failed.
+pub struct Unread {
+    pub at: usize,
+    pub end: usize,
+    pub open: bool,
+    pub failed: bool,
+}
+
+// A line of the input: whether there is one, whether it was too long for its buffer, and how many of the buffer's bytes it is,
+// 0 if it is too long.
+pub struct Line {
+    pub found: bool,
+    pub long: bool,
+    pub held: usize,
+    pub unread: Unread,
+}
+
+// What a line has so far, counted as `lines::keep` does, and whether its newline has come.
+struct Gathered {
+    ended: bool,
+    held: usize,
+    unread: Unread,
+}
+
+// An input of which nothing is read.
+pub fn start() -> Unread
+    ensures { λ r. ⌜ r .end ≡ 0 ⌝ }
+{
+    Unread {
+        at: 0,
+        end: 0,
+        open: true,
+        failed: false,
+    }
+}
+
+// The next line, without its newline, put at the start of `line`. The last one may lack its newline.
+pub fn next_line(piece: &mut [u8; PIECE], line: &mut [u8], before: Unread) -> Line
+    ensures { λ r. ⌜ Counts (r .held) (now (line .exit)) ⌝ }
+{
+    let gathered = gather(piece, line, before);
+    told(line, gathered)
+}
+
+// Reads pieces until a newline has come, or the input's end. A proved loop has to end, and nothing says that an input does: so
+// the turns are counted down, from a number that no run uses up.
+fn gather(piece: &mut [u8; PIECE], line: &mut [u8], before: Unread) -> Gathered {
+    let mut gathered = take(piece, line, 0, before);
+    let mut turns = u64::MAX;
+    while turns > 0 {
+        if gathered.ended {
+            break;
+        }
+        if !gathered.unread.open {
+            break;
+        }
+        let unread = read_piece(piece);
+        gathered = take(piece, line, gathered.held, unread);
+        turns -= 1;
+    }
+    gathered
+}
+
+// The next bytes of the input.
+fn read_piece(piece: &mut [u8; PIECE]) -> Unread {
+    let got = libc::read(STDIN_FILENO, piece);
+    let end = io::count(got, piece);
+    Unread {
+        at: 0,
+        end,
+        open: end > 0,
+        failed: got < 0,
+    }
+}
+
+// Puts what is read behind the bytes that the line holds, up to its newline.
+fn take(piece: &[u8; PIECE], line: &mut [u8], before: usize, unread: Unread) -> Gathered {
+    let end = within(unread.end);
+    let mut held = before;
+    let mut at = unread.at;
+    while at < end {
+        let byte = piece[at];
+        at += 1;
+        if byte == NEWLINE {
+            return taken(true, held, at, unread);
+        }
+        held = lines::keep(line, held, byte);
+    }
+    taken(false, held, at, unread)
+}
+
+// A piece has no bytes past its end.
+fn within(end: usize) -> usize
+    ensures { λ r. ⌜ r ≤ 65536 ⌝ }
+{
+    if end < PIECE { end } else { PIECE }
+}
+
+fn taken(ended: bool, held: usize, at: usize, before: Unread) -> Gathered {
+    let mut unread = before;
+    unread.at = at;
+    Gathered {
+        ended,
+        held,
+        unread,
+    }
+}
+
+// There is a line if its newline has come, or bytes with none after them.
+fn told(line: &[u8], gathered: Gathered) -> Line
+    ensures { λ r. ⌜ Counts (r .held) (now (line .entry)) ⌝ }
+{
+    let held = gathered.held;
+    let unread = gathered.unread;
+    let found = gathered.ended || held > 0;
+    if held > line.len() {
+        return Line {
+            found,
+            long: true,
+            held: 0,
+            unread,
+        };
+    }
+    Line {
+        found,
+        long: false,
+        held,
+        unread,
+    }
+}
+
+// Writes bytes to standard output.
+pub fn print(bytes: &[u8]) {
+    io::write_all(STDOUT_FILENO, bytes);
+}
+
+// Writes a number to standard output, in decimal.
+pub fn print_number(number: u64) {
+    io::print_decimal(STDOUT_FILENO, number);
+}

@@ -1,0 +1,42 @@
+-- What each level of a join has, from what the levels of its operands have; and the table by which it is found.
+-- Assumes nothing: these are definitions.
+use mathlib.Core.Path.{_≡_}
+use mathlib.Core.List.{List}
+use Prim.Native.Nat.{ℕ, zero, suc, _+_, _*_, _/_, _%_, _≤_, _<_}
+use Rattle.record.specs.WellFormed.{mostNodes, mostRows}
+use Rattle.join_levels.specs.Levels.{levelCount, at}
+
+-- The sum of the first n values of f.
+unfoldable pub below : ℕ → (ℕ → ℕ) → ℕ
+below zero f = 0
+below (suc n) f = below n f + f n
+
+abbrev pub later : (ℕ → ℕ) → ℕ → ℕ
+later u i = u (suc i)
+
+-- What level d of a join has, from what the levels of the two have, as the windows of a join are made: "s with P", "s
+-- with each p", "S with each p".
+unfoldable pub joined : ℕ → (ℕ → ℕ) → (ℕ → ℕ) → ℕ
+joined zero u v = u 0 * v 0
+joined (suc d) u v = joined d (later u) v + joined d (later u) (later v) + joined d u (later v)
+
+-- The table: at first, in row i and column j, what level i of S and level j of P give together;
+unfoldable pub paired : (ℕ → ℕ) → (ℕ → ℕ) → (ℕ → ℕ) → (ℕ → ℕ) → ℕ → ℕ
+paired a b c e k = a (k / levelCount) * b (k % levelCount) + c (k / levelCount) * e (k % levelCount)
+
+-- and d levels down the sum of three neighbours, d times over.
+unfoldable pub spread : ℕ → (ℕ → ℕ) → ℕ → ℕ
+spread zero f k = f k
+spread (suc d) f k = spread d f (k + 1) + spread d f (k + levelCount) + spread d f (k + suc levelCount)
+
+-- Each within the limits, so that no sum wraps.
+pub record Small4 (a b c e : ℕ → ℕ) : Type 0 where
+  pub fst : (i : ℕ) → a i ≤ mostRows
+  pub snd : (i : ℕ) → b i ≤ mostNodes
+  pub trd : (i : ℕ) → c i ≤ mostNodes
+  pub fth : (i : ℕ) → e i ≤ mostRows
+
+-- l has f's values up to m, and 0 beyond.
+pub record Has (l : List ℕ) (m : ℕ) (f : ℕ → ℕ) : Type 0 where
+  pub upto : (d : ℕ) → d ≤ m → at l d ≡ f d
+  pub beyond : (d : ℕ) → m < d → at l d ≡ 0

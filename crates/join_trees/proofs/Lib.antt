@@ -1,0 +1,15 @@
+pub mod Rows
+pub mod Join
+pub mod Alike
+pub mod Grouping
+pub mod Units
+pub mod Each
+pub mod Fine
+pub mod Folds
+pub mod Sizes
+pub mod Written
+pub mod Offsets
+pub mod Windowless
+pub mod Outcomes
+pub mod Demand
+pub mod Samples

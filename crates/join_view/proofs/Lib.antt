@@ -1,0 +1,4 @@
+pub mod InPlace
+pub mod Offsets
+pub mod Seen
+pub mod Node

@@ -1,4 +1,0 @@
-pub mod View
-pub mod Node
-pub mod Parts
-pub mod Appending

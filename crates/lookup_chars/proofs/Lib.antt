@@ -1,0 +1,4 @@
+pub mod CharLaws
+pub mod TokenLaws
+pub mod CharsStored
+pub mod Answered

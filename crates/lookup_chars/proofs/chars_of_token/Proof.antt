@@ -1,0 +1,82 @@
+-- `chars_of_token` reads the offsets of a row that has a sequence. Assumes nothing.
+use mathlib.Core.Path.{sym, ap, _∙_}
+use native.Mathlib.Omega.{arith}
+use Rattle.lookup_ranges.proofs.Top.{top-there}
+use Rattle.lookup_chars.specs.Chars.{tokenToChars}
+use Rattle.lookup_chars.specs.Answers.{tokenCharsAnswer}
+use Rattle.lookup_chars.proofs.Answered.{sequenceBack, sequence-back}
+use Rattle.lookup_chars.proofs.CharsStored.{row-inside, of-past, of-unplaced, chars-stored}
+use borrow.Author.Needs.{needs}
+use Rattle.lookup_chars.proofs.chars_of_token.Statement.{statement}
+use Rattle.lookup_chars.proofs.chars_of_token.Tie as tie
+
+shared-slice-read-if1 : tie.Need-shared-slice-read-if1
+shared-slice-read-if1 c = omega (arith, top-there _ _ (c .before .before .before .pre))
+
+returns : tie.Need-returns
+unfolding tokenToChars
+returns c = λ E one. ap tokenCharsAnswer (sym (of-past one _ _ (c .if1 .taken)))
+
+sequence-of-requires : tie.Need-sequence-of-requires
+sequence-of-requires c κs = top-there _ _ (c .before .before .before .before .pre)
+
+enum-known-found : tie.Need-enum-known-found
+enum-known-found c = search needs
+
+enum-told : tie.Need-enum-told
+enum-told c = search needs
+
+returns-2 : tie.Need-returns-2
+unfolding tokenToChars
+returns-2 c = λ E one.
+    let after = c .before .before in
+    ap tokenCharsAnswer (sym (of-unplaced one _ _ (sequence-back _ _ (after .sequence-of .ensures _ E one) ∙ ap sequenceBack (c .enum-told .given .1))))
+
+cast-at : tie.Need-cast-at
+cast-at c = search needs
+
+mul-at : tie.Need-mul-at
+mul-at c = search needs
+
+add-t11 : tie.Need-add-t11
+add-t11 c = search needs
+
+mul-t12 : tie.Need-mul-t12
+mul-t12 c = search needs
+
+shared-slice-read-t9 : tie.Need-shared-slice-read-t9
+shared-slice-read-t9 c = let else1 = c .before .before .before .before .before in omega (arith, row-inside _ _ _ (else1 .before .before .before .before .pre) (else1 .if1 .left))
+
+add-t15 : tie.Need-add-t15
+add-t15 c = search needs
+
+mul-t16 : tie.Need-mul-t16
+mul-t16 c = search needs
+
+shared-slice-read-t18 : tie.Need-shared-slice-read-t18
+shared-slice-read-t18 c = let else1 = c .before .before .before .before .before .before in omega (arith, row-inside _ _ _ (else1 .before .before .before .before .pre) (else1 .if1 .left))
+
+returns-3 : tie.Need-returns-3
+returns-3 c = λ E one.
+    let after = c .before .before .before .before .before in
+    ap tokenCharsAnswer (sym (chars-stored one _ (after .before .if1 .left) _ (sequence-back _ _ (after .sequence-of .ensures _ E one) ∙ ap sequenceBack (c .before .before .before .found .given .1))))
+
+pub chars-of-token-spec : {M : Type 1} → statement M
+chars-of-token-spec =
+    tie.close
+    (tie.spec
+    shared-slice-read-if1
+    returns
+    sequence-of-requires
+    enum-known-found
+    enum-told
+    returns-2
+    cast-at
+    mul-at
+    add-t11
+    mul-t12
+    shared-slice-read-t9
+    add-t15
+    mul-t16
+    shared-slice-read-t18
+    returns-3)

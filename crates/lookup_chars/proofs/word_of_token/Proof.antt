@@ -1,0 +1,86 @@
+-- `word_of_token` reads the word of a row that has a word and a sequence. Assumes nothing.
+use mathlib.Core.Path.{sym, ap, _∙_}
+use native.Mathlib.Omega.{arith}
+use Rattle.lookup_ranges.proofs.Top.{top-there}
+use Rattle.lookup_chars.specs.Chars.{tokenToWord}
+use Rattle.lookup_chars.specs.Answers.{tokenWordAnswer}
+use Rattle.lookup_chars.proofs.Answered.{sequenceBack, sequence-back}
+use Rattle.lookup_chars.proofs.CharsStored.{row-inside, of-past, of-unplaced, word-unmarked, word-stored}
+use borrow.Author.Needs.{needs}
+use Rattle.lookup_chars.proofs.word_of_token.Statement.{statement}
+use Rattle.lookup_chars.proofs.word_of_token.Tie as tie
+
+shared-slice-read-if1 : tie.Need-shared-slice-read-if1
+shared-slice-read-if1 c = omega (arith, top-there _ _ (c .before .before .before .pre))
+
+returns : tie.Need-returns
+unfolding tokenToWord
+returns c = λ E one. ap tokenWordAnswer (sym (of-past one _ _ (c .if1 .taken)))
+
+cast-at : tie.Need-cast-at
+cast-at c = search needs
+
+mul-at : tie.Need-mul-at
+mul-at c = search needs
+
+add-if2 : tie.Need-add-if2
+add-if2 c = search needs
+
+mul-if2 : tie.Need-mul-if2
+mul-if2 c = search needs
+
+shared-slice-read-if2 : tie.Need-shared-slice-read-if2
+shared-slice-read-if2 c = let else1 = c .before in omega (arith, row-inside _ _ _ (else1 .before .before .before .before .pre) (else1 .if1 .left))
+
+returns-2 : tie.Need-returns-2
+returns-2 c = λ E one. ap tokenWordAnswer (sym (word-unmarked one _ (c .before .before .if1 .left) (c .if2 .taken)))
+
+sequence-of-requires : tie.Need-sequence-of-requires
+sequence-of-requires c κs = top-there _ _ (c .before .before .before .before .before .before .pre)
+
+enum-known-found : tie.Need-enum-known-found
+enum-known-found c = search needs
+
+enum-told : tie.Need-enum-told
+enum-told c = search needs
+
+returns-3 : tie.Need-returns-3
+unfolding tokenToWord
+returns-3 c = λ E one.
+    let after = c .before .before in
+    ap tokenWordAnswer (sym (of-unplaced one _ _ (sequence-back _ _ (after .sequence-of .ensures _ E one) ∙ ap sequenceBack (c .enum-told .given .1))))
+
+add-t11 : tie.Need-add-t11
+add-t11 c = search needs
+
+mul-t12 : tie.Need-mul-t12
+mul-t12 c = search needs
+
+shared-slice-read-t9 : tie.Need-shared-slice-read-t9
+shared-slice-read-t9 c = let else1 = c .before .before .before .before .before .before .before in omega (arith, row-inside _ _ _ (else1 .before .before .before .before .pre) (else1 .if1 .left))
+
+returns-4 : tie.Need-returns-4
+returns-4 c = λ E one.
+    let after = c .before .before .before .before in
+    ap tokenWordAnswer (sym (word-stored one _ (after .before .before .before .if1 .left) _ (after .before .if2 .left) (sequence-back _ _ (after .sequence-of .ensures _ E one) ∙ ap sequenceBack (c .before .before .found .given .1))))
+
+pub word-of-token-spec : {M : Type 1} → statement M
+word-of-token-spec =
+    tie.close
+    (tie.spec
+    shared-slice-read-if1
+    returns
+    cast-at
+    mul-at
+    add-if2
+    mul-if2
+    shared-slice-read-if2
+    returns-2
+    sequence-of-requires
+    enum-known-found
+    enum-told
+    returns-3
+    add-t11
+    mul-t12
+    shared-slice-read-t9
+    returns-4)

@@ -1,0 +1,6 @@
+pub mod Holding
+pub mod InRange
+pub mod Parts
+pub mod Search
+pub mod Stored
+pub mod Words

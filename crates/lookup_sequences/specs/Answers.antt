@@ -1,0 +1,61 @@
+-- What the operations answer, refusals included. How an answer's numbers cross the C interface is said in c_crossing.
+-- Assumes nothing: these are definitions.
+use mathlib.Core.Bool.{cond}
+use Prim.Native.Nat.{ℕ, _*_}
+use mathlib.Core.List.{List}
+use lib.Dec.{leb}
+use lib.ListN.{length}
+use Rattle.record.specs.Read.{Reading, ofOne}
+use Rattle.record.specs.Outcome.{over}
+use Rattle.record.specs.declared.Refusal.{Refusal}
+use Rattle.record.specs.declared.Refusal.the-variants.{MalformedRecord, NoRoom}
+use Rattle.lookup_ranges.specs.Ranges.{sequenceRange, nSequences, tokenToSequence, getSequenceIds}
+use Rattle.lookup_ranges.specs.Contracts.{sequenceFound}
+use Rattle.lookup_ranges.specs.declared.Sequence.{Sequence}
+use Rattle.lookup_ranges.specs.declared.Sequence.the-variants as sequence
+use Rattle.lookup_sequences.specs.declared.RangeAnswer.{RangeAnswer}
+use Rattle.lookup_sequences.specs.declared.RangeAnswer.the-variants as range-answer
+use Rattle.lookup_sequences.specs.declared.CountAnswer.{CountAnswer}
+use Rattle.lookup_sequences.specs.declared.CountAnswer.the-variants as count-answer
+use Rattle.lookup_sequences.specs.declared.SequenceAnswer.{SequenceAnswer}
+use Rattle.lookup_sequences.specs.declared.SequenceAnswer.the-variants as sequence-answer
+use Rattle.lookup_sequences.specs.declared.ColumnAnswer.{ColumnAnswer}
+use Rattle.lookup_sequences.specs.declared.ColumnAnswer.the-variants as column-answer
+
+-- ---- What each operation answers of a batch. "lookups: 1", "any other number is refused with 1"
+
+abbrev pub rangeAnswer : Reading → ℕ → RangeAnswer
+rangeAnswer r id = ofOne (range-answer.Refused MalformedRecord) (λ E. range-answer.Rows (sequenceRange E id)) r
+
+abbrev pub countAnswer : Reading → CountAnswer
+countAnswer r = ofOne (count-answer.Refused MalformedRecord) (λ E. count-answer.Count (nSequences E)) r
+
+abbrev pub foundAnswer : Sequence → SequenceAnswer
+foundAnswer sequence.Nothing = sequence-answer.Nothing
+foundAnswer (sequence.Found k) = sequence-answer.Found k
+
+abbrev pub sequenceAnswer : Reading → ℕ → SequenceAnswer
+sequenceAnswer r row = ofOne (sequence-answer.Refused MalformedRecord) (λ E. foundAnswer (sequenceFound (tokenToSequence E row))) r
+
+-- ---- The sequence column: its outcome, the answer, and what it leaves in the output
+
+-- refused, or done: the number of rows, and their numbers
+pub data ColumnOutcome : Type 0 where
+  refused : Refusal → ColumnOutcome
+  done : ℕ → List ℕ → ColumnOutcome
+
+-- "the sequence column also 2": into an output of so many numbers
+abbrev pub sequenceIds : Reading → ℕ → ColumnOutcome
+sequenceIds r room =
+    ofOne (refused MalformedRecord)
+    (λ E. cond (leb (2 * length (E .rows)) room) (done (length (E .rows)) (getSequenceIds E)) (refused NoRoom))
+    r
+
+abbrev pub columnAnswer : ColumnOutcome → ColumnAnswer
+columnAnswer (refused k) = column-answer.Refused k
+columnAnswer (done n numbers) = column-answer.Done n
+
+-- "A refusal changes no buffer"; "On success numbers past the result are untouched"
+abbrev pub columnLeft : ColumnOutcome → List ℕ → List ℕ
+columnLeft (refused k) was = was
+columnLeft (done n numbers) was = over numbers was

@@ -1,0 +1,4 @@
+pub mod Followed
+pub mod Growing
+pub mod Laws
+pub mod Samples

@@ -1,4 +1,0 @@
-pub mod Finding
-pub mod Split
-pub mod Parts
-mod Samples

@@ -1,2 +1,0 @@
-pub mod Split
-pub mod Parts

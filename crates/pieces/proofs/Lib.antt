@@ -1,4 +1,0 @@
-pub mod Number
-mod Digits
-mod Piece
-pub mod Lies

@@ -1,3 +1,0 @@
-mod Piece
-mod Joined
-mod Planning

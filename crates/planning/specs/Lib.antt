@@ -1,2 +1,0 @@
-pub mod Piece
-pub mod Plan

@@ -1,0 +1,4 @@
+pub mod Piece
+pub mod Next
+pub mod Joined
+pub mod Planning

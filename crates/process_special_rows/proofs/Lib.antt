@@ -1,0 +1,3 @@
+pub mod Specials
+pub mod Lengthened
+pub mod Lengthening

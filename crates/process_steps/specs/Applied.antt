@@ -1,0 +1,40 @@
+-- What the pieces of a template become (document 01, module 9).
+-- Assumes nothing: these are definitions.
+use mathlib.Core.Bool.{Bool, false, cond}
+use mathlib.Core.Option.{Option, none as nothing, some}
+use mathlib.Core.List.{List, [], _∷_}
+use Prim.Native.Nat.{ℕ}
+use Rattle.record.specs.Tree.{Encoding}
+use Rattle.template_pieces.specs.Piece.{Piece, sequenceA, sequenceB, special}
+use Rattle.template_entries.specs.Table.{Special}
+use Rattle.template_find.specs.Last.{lastWith}
+use Rattle.template_entries.specs.Rows.{specialEncoding}
+use Rattle.template_walk.specs.Sequences.{someOk, isB}
+use Rattle.join_view.specs.declared.View.the-variants.{Piece as PieceView}
+use Rattle.join_view.specs.View.{seen}
+
+-- "Encoding i gets sequence id i, and so do its first-level windows; each piece sets type and sequence on the top encoding
+-- only"
+abbrev pub ofSequence : ℕ → ℕ → Encoding → Encoding
+ofSequence i t E = seen (PieceView i t) E
+
+-- a piece of the second encoding; without one there is nothing to take
+abbrev pub ofSecond : ℕ → Option Encoding → List Encoding
+ofSecond t nothing = []
+ofSecond t (some F) = ofSequence 1 t F ∷ []
+
+-- a special piece, which is nothing where its id is unknown
+abbrev pub ofSpecial : ℕ → Option Special → List Encoding
+ofSpecial t nothing = []
+ofSpecial t (some s) = specialEncoding t (s .members) ∷ []
+
+-- what one piece becomes: the table, whether special tokens are added, the encodings
+abbrev pub applied : List Special → Bool → Encoding → Option Encoding → Piece → List Encoding
+applied table add E second (sequenceA t) = ofSequence 0 t E ∷ []
+applied table add E second (sequenceB t) = ofSecond t second
+applied table add E second (special start id t) = cond add (ofSpecial t (lastWith id table)) []
+
+-- "11 B without a second"
+abbrev pub lacksSecond : Option Encoding → List Piece → Bool
+lacksSecond nothing pieces = someOk isB pieces
+lacksSecond (some F) pieces = false

@@ -1,3 +1,0 @@
-mod Inputs
-mod Checking
-mod Deciding

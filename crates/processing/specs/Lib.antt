@@ -1,2 +1,0 @@
-pub mod Process
-pub mod Templates

@@ -1,0 +1,5 @@
+pub mod Passes
+pub mod Track
+pub mod Kept
+pub mod Meets
+pub mod Checked

@@ -1,0 +1,4 @@
+pub mod Put
+pub mod RangeSet
+pub mod Runs
+pub mod TokenRows

@@ -1,0 +1,3 @@
+mod Gathering
+mod Parts
+mod Samples

@@ -1,0 +1,3 @@
+pub mod Comments
+pub mod Counting
+pub mod Contracts

@@ -1,0 +1,229 @@
+// Replays the stored cases of the operations on templates, each called through the C interface (`replay_program` says what a
+// case is). Texts and the added pool are lists of bytes, and the line above each function is its whole case. To add one: its
+// number, such a function, an arm of `replay`, and its cases, which the comparison with the Rust makes.
+ghost use lib.ListN.{length};
+ghost use Rattle.io.specs.Counts.{Counts};
+ghost use Rattle.replay_program.specs.Contracts.{Inside};
+use input::Line;
+use input::PIECE;
+use replay_answers::Outcome;
+use replay_program::Case;
+use replay_program::LINE;
+use replay_program::NUMBERS;
+use template_text::Template;
+
+// Operation numbers, the first number of each case.
+const READ_TEMPLATE: u32 = 23;
+
+const VALIDATE: u32 = 24;
+
+const COUNT_ADDED: u32 = 25;
+
+// The most bytes of a text, some more than a template may have, and of the added pool.
+const TEXT: usize = 4100;
+
+const POOL: usize = 256;
+
+// What stands in each lent number before a call.
+const BEFORE: u32 = 7;
+
+const BEFORE_COUNT: usize = 7;
+
+const BEFORE_SUM: u64 = 7;
+
+// The largest number of a case.
+const LARGEST: u64 = 4294967295;
+
+fn main() {
+    let mut piece = [0u8; PIECE];
+    let mut line = [0u8; LINE];
+    replay_input(&mut piece, &mut line);
+}
+
+// Replays all of the input. A proved loop has to end, and nothing says that an input does: so the turns are counted down, from
+// a number that no run uses up.
+fn replay_input(piece: &mut [u8; PIECE], line: &mut [u8; LINE]) {
+    let mut progress = replay_program::start();
+    let mut unread = input::start();
+    let mut turns = u64::MAX;
+    while turns > 0 {
+        let next = input::next_line(piece, line, unread);
+        unread = next.unread;
+        if !next.found {
+            break;
+        }
+        progress = replay_program::counted(progress, replay_line(line, next));
+        turns -= 1;
+    }
+    replay_program::print_counts(progress, unread);
+}
+
+// Runs the case that a line holds. A line longer than its buffer is bad.
+fn replay_line(line: &[u8], next: Line) -> Outcome
+    requires { ⌜ Counts (next .held) (now line) ⌝ }
+{
+    if next.long {
+        return Outcome::Bad;
+    }
+    let held = next.held;
+    replay_case(&line[..held])
+}
+
+fn replay_case(line: &[u8]) -> Outcome {
+    let mut numbers = [0u32; NUMBERS];
+    let case = replay_program::read_case(line, &mut numbers);
+    replay_parts(case, &numbers)
+}
+
+fn replay_parts(case: Case, numbers: &[u32]) -> Outcome
+    requires { ⌜ Inside case (length (now numbers)) ⌝ }
+{
+    if case.skipped {
+        return Outcome::Skipped;
+    }
+    if !case.good {
+        return Outcome::Bad;
+    }
+    let first_start = case.first.start;
+    let first_end = case.first.end;
+    let second_start = case.second.start;
+    let second_end = case.second.end;
+    let end = case.end;
+    replay(
+        case.operation,
+        &numbers[first_start..first_end],
+        &numbers[second_start..second_end],
+        &numbers[second_end..end],
+    )
+}
+
+// `first` and `second` are the lists that the case begins with, `rest` what follows them.
+fn replay(operation: u32, first: &[u32], second: &[u32], rest: &[u32]) -> Outcome {
+    match operation {
+        READ_TEMPLATE => read_template(first, second, rest),
+        VALIDATE => validate(first, second, rest),
+        COUNT_ADDED => count_added(first, second, rest),
+        _ => Outcome::Bad,
+    }
+}
+
+// `23 text nothing refusal count pieces`
+fn read_template(text: &[u32], nothing: &[u32], rest: &[u32]) -> Outcome {
+    if nothing.len() != 0 {
+        return Outcome::Bad;
+    }
+    let mut bytes = [0u8; TEXT];
+    text_read(text, rest, &mut bytes)
+}
+
+fn text_read(text: &[u32], rest: &[u32], bytes: &mut [u8]) -> Outcome {
+    let held = replay_bytes::text_of(text, bytes);
+    if !held.good {
+        return Outcome::Bad;
+    }
+    let count = held.count;
+    let mut pieces = [BEFORE; Template::PIECES];
+    let mut number = BEFORE_COUNT;
+    let refusal = c_templates::noddrefyr_read_template(&bytes[..count], &mut pieces, &mut number);
+    pieces_stored(refusal, number, &pieces, rest)
+}
+
+// Whether the rest of a case is the refusal, the number of pieces and the list of them.
+fn pieces_stored(
+    refusal: u32,
+    count: usize,
+    pieces: &[u32; Template::PIECES],
+    rest: &[u32],
+) -> Outcome {
+    let stored = replay_cases::last_list(rest, 2);
+    let start = stored.start;
+    let end = stored.end;
+    if end - start != Template::PIECES {
+        return Outcome::Bad;
+    }
+    if replay_cases::number_at(rest, 0) != refusal {
+        return Outcome::Differs;
+    }
+    if lists::wide(replay_cases::number_at(rest, 1)) != count {
+        return Outcome::Differs;
+    }
+    replay_answers::compared(replay_answers::equal(pieces, &rest[start..end]))
+}
+
+// `24 entries members single-set pair-set single pair added refusal`
+fn validate(entries: &[u32], members: &[u32], rest: &[u32]) -> Outcome {
+    let mut single = [0u8; TEXT];
+    let mut pair = [0u8; TEXT];
+    let mut added = [0u8; POOL];
+    validated(entries, members, rest, &mut single, &mut pair, &mut added)
+}
+
+fn validated(
+    entries: &[u32],
+    members: &[u32],
+    rest: &[u32],
+    single: &mut [u8],
+    pair: &mut [u8],
+    added: &mut [u8],
+) -> Outcome {
+    let list = replay_bytes::bytes_at(rest, 2, single);
+    let single_bytes = list.end - list.start;
+    let held = replay_bytes::texts_at(rest, list.end, pair, added);
+    let pair_bytes = held.first;
+    let added_bytes = held.second;
+    let refusal = c_validate::noddrefyr_validate(
+        replay_cases::number_at(rest, 0) == 1,
+        &single[..single_bytes],
+        replay_cases::number_at(rest, 1) == 1,
+        &pair[..pair_bytes],
+        entries,
+        members,
+        &added[..added_bytes],
+    );
+    refused(refusal, rest, held.end)
+}
+
+// Whether a case is, from a place on, a refusal alone.
+fn refused(refusal: u32, rest: &[u32], at: usize) -> Outcome {
+    let none = [0u32; 0];
+    replay_answers::answered(refusal, &none, rest, at)
+}
+
+// `25 entries members set is-pair text added refusal count`
+fn count_added(entries: &[u32], members: &[u32], rest: &[u32]) -> Outcome {
+    let mut text = [0u8; TEXT];
+    let mut added = [0u8; POOL];
+    counted(entries, members, rest, &mut text, &mut added)
+}
+
+fn counted(
+    entries: &[u32],
+    members: &[u32],
+    rest: &[u32],
+    text: &mut [u8],
+    added: &mut [u8],
+) -> Outcome {
+    let held = replay_bytes::texts_at(rest, 2, text, added);
+    let text_bytes = held.first;
+    let added_bytes = held.second;
+    let mut sum = BEFORE_SUM;
+    let refusal = c_validate::noddrefyr_count_added(
+        replay_cases::number_at(rest, 0) == 1,
+        &text[..text_bytes],
+        replay_cases::number_at(rest, 1) == 1,
+        entries,
+        members,
+        &added[..added_bytes],
+        &mut sum,
+    );
+    sum_stored(refusal, sum, rest, held.end)
+}
+
+// Whether a case is, from a place on, a refusal and a sum, which may be too large for a number of a case.
+fn sum_stored(refusal: u32, sum: u64, rest: &[u32], at: usize) -> Outcome {
+    if sum > LARGEST {
+        return Outcome::Differs;
+    }
+    let answer = [sum as u32];
+    replay_answers::answered_one(refusal, &answer, rest, at)
+}

@@ -1,4 +1,0 @@
-pub mod Specials
-pub mod Lengthened
-pub mod Lengthening
-pub mod Appending

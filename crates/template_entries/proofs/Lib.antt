@@ -1,0 +1,4 @@
+pub mod Checking
+pub mod Entries
+pub mod Sound
+pub mod EntryMembers

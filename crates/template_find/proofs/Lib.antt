@@ -1,0 +1,4 @@
+pub mod Bytes
+pub mod Finding
+pub mod Found
+pub mod Last

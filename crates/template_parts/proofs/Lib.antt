@@ -1,0 +1,4 @@
+mod Samples
+pub mod Finding
+pub mod Split
+pub mod Parts

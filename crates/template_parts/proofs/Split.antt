@@ -1,0 +1,84 @@
+-- What splitting is: the parts joined by single separators give the text back, no part holds a separator, and no other
+-- parts do both. And the first part, with what is left after it.
+-- Assumes nothing.
+use mathlib.Core.Path.{_≡_, refl, ap, sym, _∙_}
+use mathlib.Core.Bool.{Bool, true, false, cond}
+use Prim.Native.Nat.{ℕ, suc}
+use mathlib.Core.List.{List, [], _∷_, _++_, append-nil}
+use lib.Dec.{eqb}
+use lib.ListN.{take, drop}
+use borrow.Author.Tests.{eqb-true, eqb-false, eq-eqb, ne-eqb}
+use Rattle.lists.specs.Lists.{All}
+use Rattle.template_parts.specs.Split.{led, split, joined, Without}
+use Rattle.template_parts.specs.Parts.{lengthTo}
+
+-- ---- The first part
+
+-- the parts of what follows the first: none at the end, else those after the separator
+abbrev pub after : ℕ → List ℕ → List (List ℕ)
+after separator [] = []
+after separator (byte ∷ text) = split separator text
+
+-- the first part reaches up to the first separator, or the end
+pub split-first : (separator : ℕ) (text : List ℕ) → split separator text ≡ take (lengthTo separator text) text ∷ after separator (drop (lengthTo separator text) text)
+unfolding split lengthTo
+split-first separator [] = refl
+split-first separator (byte ∷ text) = go (eqb byte separator) (split-first separator text)
+  where
+    go : (here : Bool) → split separator text ≡ take (lengthTo separator text) text ∷ after separator (drop (lengthTo separator text) text) → cond here ([] ∷ split separator text) (led byte (split separator text)) ≡ take (cond here 0 (suc (lengthTo separator text))) (byte ∷ text) ∷ after separator (drop (cond here 0 (suc (lengthTo separator text))) (byte ∷ text))
+    go true rest = refl
+    go false rest = ap (led byte) rest
+
+-- ---- The parts determine the text
+
+module _ (separator : ℕ) where
+  joined-led : (byte : ℕ) (text : List ℕ) → joined separator (led byte (split separator text)) ≡ byte ∷ joined separator (split separator text)
+  unfolding joined
+  joined-led byte text = rw (split-first separator text) (go (after separator (drop (lengthTo separator text) text)))
+    where
+      go : (rest : List (List ℕ)) → joined separator ((byte ∷ take (lengthTo separator text) text) ∷ rest) ≡ byte ∷ joined separator (take (lengthTo separator text) text ∷ rest)
+      go [] = refl
+      go (next ∷ rest) = refl
+
+  joined-next : (text : List ℕ) → joined separator ([] ∷ split separator text) ≡ separator ∷ joined separator (split separator text)
+  unfolding joined
+  joined-next text = rw (split-first separator text)
+
+  -- the parts joined by single separators give the text back
+  pub split-joined : (text : List ℕ) → joined separator (split separator text) ≡ text
+  unfolding split joined
+  split-joined [] = refl
+  split-joined (byte ∷ text) = go (eqb byte separator) refl (split-joined text)
+    where
+      go : (here : Bool) → eqb byte separator ≡ here → joined separator (split separator text) ≡ text → joined separator (cond here ([] ∷ split separator text) (led byte (split separator text))) ≡ byte ∷ text
+      go true e rest = joined-next text ∙ ap (_∷_ separator) rest ∙ ap (λ (b : ℕ). b ∷ text) (sym (eqb-true byte separator e))
+      go false e rest = joined-led byte text ∙ ap (_∷_ byte) rest
+
+  -- no part holds a separator
+  pub split-without : (text : List ℕ) → All (Without separator) (split separator text)
+  unfolding split
+  split-without [] = (tt, tt)
+  split-without (byte ∷ text) = go (eqb byte separator) refl (split-without text)
+    where
+      leads : (parts : List (List ℕ)) → (byte ≡ separator → ⊥) → All (Without separator) parts → All (Without separator) (led byte parts)
+      leads [] h all = ((h, tt), tt)
+      leads (part ∷ parts) h all = ((h, all .0), all .1)
+
+      go : (here : Bool) → eqb byte separator ≡ here → All (Without separator) (split separator text) → All (Without separator) (cond here ([] ∷ split separator text) (led byte (split separator text)))
+      go true e all = (tt, all)
+      go false e all = leads (split separator text) (eqb-false byte separator e) all
+
+  -- ---- And the text its parts
+
+  split-leads : (part text : List ℕ) → Without separator part → (rest : List (List ℕ)) → split separator text ≡ [] ∷ rest → split separator (part ++ text) ≡ part ∷ rest
+  unfolding split
+  split-leads [] text without rest e = e
+  split-leads (byte ∷ part) text without rest e = rw (ne-eqb byte separator (without .0), split-leads part text (without .1) rest e)
+
+  -- parts that hold no separator are those of the text that they are joined to
+  pub split-only : (part : List ℕ) (parts : List (List ℕ)) → All (Without separator) (part ∷ parts) → split separator (joined separator (part ∷ parts)) ≡ part ∷ parts
+  unfolding split joined
+  split-only part [] all = ap (split separator) (sym (append-nil part)) ∙ split-leads part [] (all .0) [] refl
+  split-only part (next ∷ parts) all =
+      split-leads part (separator ∷ joined separator (next ∷ parts)) (all .0) (next ∷ parts)
+      (rw (eq-eqb separator separator refl, split-only next parts (all .1)))

@@ -1,0 +1,2 @@
+mod Piece
+pub mod Lies

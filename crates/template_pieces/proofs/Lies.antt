@@ -1,0 +1,162 @@
+-- A piece that was read: the id of a special piece lies in the text where its numbers say.
+-- Assumes nothing.
+use mathlib.Core.Path.{_≡_, refl, ap, subst}
+use mathlib.Core.Bool.{Bool, true, false, _||_, cond}
+use mathlib.Core.Option.{Option, none as nothing, some, Option·map}
+use Prim.Native.Nat.{ℕ, _+_, _-_, _≤_}
+use native.Mathlib.Nat.{add-sub-cancel-left}
+use native.Mathlib.Omega.{arith}
+use mathlib.Core.List.{List, [], _∷_}
+use lib.Dec.{eqb}
+use lib.ListN.{length, getD, take, drop, length-drop}
+use lib.Seq.{take-take, length-take-le}
+use Rattle.template_parts.specs.Parts.{lengthTo}
+use Rattle.template_parts.proofs.Finding.{length-to-most}
+use Rattle.template_parts.proofs.Split.{after, split-first}
+use Rattle.template_numbers.specs.Number.{readNumber}
+use Rattle.template_pieces.specs.Piece.{Piece, sequenceA, sequenceB, special, dollar, colon, upperA, lowerA, upperB, lowerB, same, sequenceOf, named, withType, ofColons, readPart, pieceNumbers, pieceAnswer}
+use Rattle.template_pieces.specs.declared.PieceAnswer.the-variants.{Unreadable, Read}
+
+-- a special piece has this id, at this place
+abbrev Named : ℕ → List ℕ → Piece → Type 0
+Named start id (sequenceA _) = Unit {0}
+Named start id (sequenceB _) = Unit {0}
+Named start id (special place bytes _) = (place ≡ start) × (bytes ≡ id)
+
+-- the id of a special piece lies in the text at its place
+abbrev pub Lies : List ℕ → Piece → Type 0
+Lies text (sequenceA _) = Unit {0}
+Lies text (sequenceB _) = Unit {0}
+Lies text (special start id _) = (start + length id ≤ length text) × (take (length id) (drop start text) ≡ id)
+
+-- ---- The name of a piece
+
+-- every piece that an option holds
+abbrev Each : (Piece → Type 0) → Option Piece → Type 0
+Each P nothing = Unit {0}
+Each P (some piece) = P piece
+
+module _ (start : ℕ) (id : List ℕ) where
+  each-sequence : (number : Option ℕ) → Each (Named start id) (Option·map sequenceA number)
+  each-sequence nothing = tt
+  each-sequence (some n) = tt
+
+  each-cond : (b : Bool) (x y : Option Piece) → Each (Named start id) x → Each (Named start id) y → Each (Named start id) (cond b x y)
+  each-cond true x y hx hy = hx
+  each-cond false x y hx hy = hy
+
+  sequence-named : (name : List ℕ) → Each (Named start id) (sequenceOf name)
+  unfolding sequenceOf
+  sequence-named name =
+      each-cond (same name [] || (same name (upperA ∷ []) || same name (lowerA ∷ []))) _ _ tt
+      (each-cond (same name (upperB ∷ []) || same name (lowerB ∷ [])) _ _ tt (each-sequence (readNumber name)))
+
+  typed-named : (number : Option ℕ) (piece : Option Piece) → Each (Named start id) piece → Each (Named start id) (withType number piece)
+  unfolding withType
+  typed-named nothing piece h = tt
+  typed-named (some t) nothing h = tt
+  typed-named (some t) (some (sequenceA u)) h = tt
+  typed-named (some t) (some (sequenceB u)) h = tt
+  typed-named (some t) (some (special s bytes u)) h = h
+
+name-named : (start : ℕ) (id : List ℕ) → Each (Named start id) (named start id)
+unfolding named
+name-named start [] = (refl, refl)
+name-named start (byte ∷ id) = each-cond start (byte ∷ id) (eqb byte dollar) (sequenceOf id) (some (special start (byte ∷ id) 0)) (sequence-named start (byte ∷ id) id) (refl, refl)
+
+-- a part's name is what stands before its colon
+part-named : (start : ℕ) (part : List ℕ) → Each (Named start (take (lengthTo colon part) part)) (readPart start part)
+unfolding readPart
+part-named start part = rw (split-first colon part) (go (take (lengthTo colon part) part) (after colon (drop (lengthTo colon part) part)))
+  where
+    go : (id : List ℕ) (rest : List (List ℕ)) → Each (Named start id) (ofColons start (id ∷ rest))
+    go id [] = name-named start id
+    go id (number ∷ []) = typed-named start id (readNumber number) (named start id) (name-named start id)
+    go id (number ∷ more ∷ rest) = tt
+
+-- ---- Where it lies
+
+-- a text with this name at a place within it
+lies : (text : List ℕ) (start size : ℕ) → start + size ≤ length text → (piece : Piece) → Named start (take size (drop start text)) piece → Lies text piece
+lies text start size h (sequenceA t) n = tt
+lies text start size h (sequenceB t) n = tt
+lies text start size h (special place id t) n =
+    let long : length (take size (drop start text)) ≡ size = length-take-le size (drop start text) (omega (arith, length-drop start text)) in
+    rw (n .0, n .1, long) (h, refl)
+
+-- what an option that holds a piece says of it
+each-some : (P : Piece → Type 0) (o : Option Piece) {piece : Piece} → Each P o → o ≡ some piece → P piece
+each-some P o {piece} h e = subst (Each P) e h
+
+module _ (text : List ℕ) (start size : ℕ) (h : start + size ≤ length text) where
+  abbrev part : List ℕ
+  part = take size (drop start text)
+
+  pub part-lies : {piece : Piece} → readPart start part ≡ some piece → Lies text piece
+  part-lies {piece} e =
+      let long : length part ≡ size = length-take-le size (drop start text) (omega (arith, length-drop start text)) in
+      let few : lengthTo colon part ≤ size = omega (arith, length-to-most colon part) in
+      let name : take (lengthTo colon part) part ≡ take (lengthTo colon part) (drop start text) = take-take (lengthTo colon part) size (drop start text) few in
+      lies text start (lengthTo colon part) (omega arith) piece
+      (subst (λ (id : List ℕ). Named start id piece) name (each-some (Named start (take (lengthTo colon part) part)) (readPart start part) (part-named start part) e))
+
+-- ---- What an answer says of a piece
+
+-- A piece has these numbers, and its id lies in the text.
+pub record PieceIs (text : List ℕ) (kind type start size : ℕ) (piece : Piece) : Type 0 where
+  pub numbers : pieceNumbers piece ≡ kind ∷ type ∷ start ∷ size ∷ []
+  pub lies-there : Lies text piece
+
+-- What was read is a piece with these numbers.
+pub record ReadAs (text : List ℕ) (answer : Option Piece) (kind type start size : ℕ) : Type 0 where
+  pub piece : Piece
+  pub holds : answer ≡ some piece
+  pub is : PieceIs text kind type start size piece
+
+pub answer-none : (o : Option Piece) → pieceAnswer o ≡ Unreadable → o ≡ nothing
+unfolding pieceAnswer
+answer-none nothing e = refl
+answer-none (some (sequenceA t)) e = cc
+answer-none (some (sequenceB t)) e = cc
+answer-none (some (special s id t)) e = cc
+
+answer-some : (text : List ℕ) (o : Option Piece) {kind type start size : ℕ} → ((p : Piece) → o ≡ some p → Lies text p) → pieceAnswer o ≡ Read kind type start size → ReadAs text o kind type start size
+unfolding pieceAnswer
+answer-some text nothing there e = let z : _≡_ {A = ℕ} 0 1 = cc in absurd (omega arith)
+answer-some text (some (sequenceA t)) there e = record { piece = sequenceA t; holds = refl; is = record { numbers = cc; lies-there = tt } }
+answer-some text (some (sequenceB t)) there e = record { piece = sequenceB t; holds = refl; is = record { numbers = cc; lies-there = tt } }
+answer-some text (some (special s id t)) there e = record { piece = special s id t; holds = refl; is = record { numbers = cc; lies-there = there (special s id t) refl } }
+
+pub piece-read : (text : List ℕ) (start size : ℕ) → start + size ≤ length text → {kind type place long : ℕ} → pieceAnswer (readPart start (take size (drop start text))) ≡ Read kind type place long
+    → ReadAs text (readPart start (take size (drop start text))) kind type place long
+piece-read text start size h e = answer-some text (readPart start (take size (drop start text))) (λ p. part-lies text start size h {piece = p}) e
+
+-- ---- What the numbers say
+
+module _ {text : List ℕ} {kind type start size : ℕ} where
+  -- a piece's id does not pass the text
+  pub piece-within : (piece : Piece) → PieceIs text kind type start size piece → start + size ≤ length text
+  piece-within (sequenceA t) p =
+      let s : 0 ≡ start = ap (λ (l : List ℕ). getD l 2 0) (p .numbers) in
+      let n : 0 ≡ size = ap (λ (l : List ℕ). getD l 3 0) (p .numbers) in
+      omega arith
+  piece-within (sequenceB t) p =
+      let s : 0 ≡ start = ap (λ (l : List ℕ). getD l 2 0) (p .numbers) in
+      let n : 0 ≡ size = ap (λ (l : List ℕ). getD l 3 0) (p .numbers) in
+      omega arith
+  piece-within (special a id t) p =
+      let s : a ≡ start = ap (λ (l : List ℕ). getD l 2 0) (p .numbers) in
+      let n : length id ≡ size = ap (λ (l : List ℕ). getD l 3 0) (p .numbers) in
+      omega (arith, p .lies-there .0)
+
+  -- a special piece, whose id is the part of the text that the numbers give
+  pub kind-special : (p : Piece) → PieceIs text kind type start size p → kind ≡ 2 → p ≡ special start (take (start + size - start) (drop start text)) type
+  kind-special (sequenceA t) is e = let k : 0 ≡ kind = ap (λ (l : List ℕ). getD l 0 0) (is .numbers) in absurd (omega arith)
+  kind-special (sequenceB t) is e = let k : 1 ≡ kind = ap (λ (l : List ℕ). getD l 0 0) (is .numbers) in absurd (omega arith)
+  kind-special (special s id t) is e =
+      let type-is : t ≡ type = ap (λ (l : List ℕ). getD l 1 0) (is .numbers) in
+      let start-is : s ≡ start = ap (λ (l : List ℕ). getD l 2 0) (is .numbers) in
+      let size-is : length id ≡ size = ap (λ (l : List ℕ). getD l 3 0) (is .numbers) in
+      let id-is : take (length id) (drop s text) ≡ id = is .lies-there .1 in
+      let bytes : take size (drop start text) ≡ id = rw (size-is, start-is) at id-is in
+      rw (add-sub-cancel-left, bytes, type-is, start-is)

@@ -1,0 +1,131 @@
+-- What a part is, by its bytes: the sequence that a name is, what stands before a colon, and the colons.
+-- Assumes nothing.
+use mathlib.Core.Path.{_≡_, refl, ap, sym, _∙_}
+use mathlib.Core.Bool.{_||_, cond, and-true, and-false}
+use mathlib.Core.Option.{Option, none as nothing, some, Option·map}
+use Prim.Native.Nat.{ℕ, suc, _+_, _-_, _≤_, _<_}
+use native.Mathlib.Numerals.{add-one}
+use native.Mathlib.Omega.{arith}
+use mathlib.Core.List.{List, [], _∷_}
+use lib.Dec.{eqb}
+use lib.ListN.{length, getD, take, drop, drop-of-length-le, length-drop}
+use lib.Seq.{drop-cons, drop-drop, take-all, take-length, drop-length}
+use borrow.Author.Tests.{eq-eqb, ne-eqb}
+use Rattle.template_parts.specs.Split.{split}
+use Rattle.template_parts.specs.Parts.{lengthTo}
+use Rattle.template_parts.specs.Contracts.{FoundFrom}
+use Rattle.template_parts.proofs.Split.{after, split-first}
+use Rattle.template_numbers.specs.Number.{readNumber, numberAnswer}
+use Rattle.template_pieces.specs.Piece.{Piece, sequenceA, sequenceB, special, dollar, colon, upperA, lowerA, upperB, lowerB, same, sequenceOf, named, withType, readPart, pieceAnswer}
+use Rattle.template_numbers.specs.declared.NumberAnswer.the-variants.{Unreadable as Bad, Number}
+use Rattle.template_pieces.specs.declared.PieceAnswer.the-variants.{Unreadable, Read}
+
+-- what is lent of a list from a place on
+pub take-rest : (n : ℕ) (l : List ℕ) → take (length l - n) (drop n l) ≡ drop n l
+take-rest n l = take-all (length l - n) (drop n l) (omega (arith, length-drop n l))
+
+-- ---- A sequence
+
+pub names-nothing : (name : List ℕ) → length name ≡ 0 → sequenceOf name ≡ some (sequenceA 0)
+unfolding sequenceOf same
+names-nothing [] e = refl
+names-nothing (a ∷ name) e = absurd (omega arith)
+
+-- a name of one letter is A, B, or a number
+abbrev pub ofLetter : ℕ → Option Piece → Option Piece
+ofLetter a number = cond (eqb a upperA || eqb a lowerA) (some (sequenceA 0)) (cond (eqb a upperB || eqb a lowerB) (some (sequenceB 0)) number)
+
+pub names-letter : (name : List ℕ) → length name ≡ 1 → sequenceOf name ≡ ofLetter (getD name 0 0) (Option·map sequenceA (readNumber name))
+unfolding sequenceOf same
+names-letter [] e = absurd (omega arith)
+names-letter (a ∷ []) e = simp and-true
+names-letter (a ∷ b ∷ name) e = absurd (omega arith)
+
+pub names-number : (name : List ℕ) → 1 < length name → sequenceOf name ≡ Option·map sequenceA (readNumber name)
+unfolding sequenceOf same
+names-number [] h = absurd (omega arith)
+names-number (a ∷ []) h = absurd (omega arith)
+names-number (a ∷ b ∷ name) h = simp and-false
+
+-- ---- A name
+
+pub names-empty : (start : ℕ) (id : List ℕ) → length id ≤ 0 → named start id ≡ some (special start id 0)
+unfolding named
+names-empty start [] h = refl
+names-empty start (a ∷ id) h = absurd (omega arith)
+
+pub names-special : (start : ℕ) (id : List ℕ) → 0 < length id → (getD id 0 0 ≡ dollar → ⊥) → named start id ≡ some (special start id 0)
+unfolding named
+names-special start [] h e = absurd (omega arith)
+names-special start (a ∷ id) h e = rw (ne-eqb a dollar e)
+
+pub names-sequence : (start : ℕ) (id : List ℕ) → 0 < length id → getD id 0 0 ≡ dollar → named start id ≡ sequenceOf (take (length id - 1) (drop 1 id))
+unfolding named
+names-sequence start [] h e = absurd (omega arith)
+names-sequence start (a ∷ id) h e = rw (eq-eqb a dollar e) (ap sequenceOf (sym (take-rest 1 (a ∷ id))))
+
+-- ---- Colons
+
+module _ (start : ℕ) (part : List ℕ) {end : ℕ} (first : FoundFrom part 0 colon end) where
+  pub no-colon : end ≡ length part → readPart start part ≡ named start part
+  unfolding readPart
+  no-colon h =
+      let whole : lengthTo colon part ≡ length part = omega (arith, first .place) in
+      rw (split-first colon part, whole, take-length, drop-length)
+
+  module _ (h : end < length part) where
+    -- what stands before the first colon, and what its other colons part
+    at-colon : split colon part ≡ take end part ∷ split colon (drop (end + 1) part)
+    at-colon =
+        let reach : lengthTo colon part ≡ end = omega (arith, first .place) in
+        split-first colon part ∙ rw (reach, add-one, drop-cons part end 0 h)
+
+    module _ {second : ℕ} (next : FoundFrom part (end + 1) colon second) where
+      abbrev rest : List ℕ
+      rest = drop (end + 1) part
+
+      at-second : split colon rest ≡ take (lengthTo colon rest) rest ∷ after colon (drop second part)
+      at-second = split-first colon rest ∙ rw (drop-drop, next .place)
+
+      pub one-colon : length part ≤ second → readPart start part ≡ withType (readNumber (take (length part - (end + 1)) rest)) (named start (take end part))
+      unfolding readPart
+      one-colon l =
+          let whole : length rest ≤ lengthTo colon rest = omega (arith, next .place, length-drop (end + 1) part) in
+          rw (at-colon, at-second, take-all (lengthTo colon rest) rest whole, drop-of-length-le part l, take-rest)
+
+      pub more-colons : second < length part → readPart start part ≡ nothing
+      unfolding readPart
+      more-colons l = rw (at-colon, at-second, drop-cons part second 0 l, split-first colon (drop (suc second) part))
+
+-- ---- Answers
+
+pub numbered-none : (number : Option ℕ) → numberAnswer number ≡ Bad → Unreadable ≡ pieceAnswer (Option·map sequenceA number)
+unfolding numberAnswer pieceAnswer
+numbered-none nothing e = refl
+numbered-none (some n) e = cc
+
+pub numbered-some : (number : Option ℕ) {type : ℕ} → numberAnswer number ≡ Number type → Read 0 type 0 0 ≡ pieceAnswer (Option·map sequenceA number)
+unfolding numberAnswer pieceAnswer
+numbered-some nothing e = cc
+numbered-some (some n) e = cc
+
+pub typed-none : (number : Option ℕ) (piece : Option Piece) → numberAnswer number ≡ Bad → Unreadable ≡ pieceAnswer (withType number piece)
+unfolding numberAnswer pieceAnswer withType
+typed-none nothing piece e = refl
+typed-none (some n) piece e = cc
+
+pub typed-bad : (number : Option ℕ) (piece : Option Piece) → pieceAnswer piece ≡ Unreadable → Unreadable ≡ pieceAnswer (withType number piece)
+unfolding numberAnswer pieceAnswer withType
+typed-bad nothing piece e = refl
+typed-bad (some n) nothing e = refl
+typed-bad (some n) (some (sequenceA t)) e = cc
+typed-bad (some n) (some (sequenceB t)) e = cc
+typed-bad (some n) (some (special s id t)) e = cc
+
+pub typed-some : (number : Option ℕ) (piece : Option Piece) {type kind old start size : ℕ} → numberAnswer number ≡ Number type → pieceAnswer piece ≡ Read kind old start size → Read kind type start size ≡ pieceAnswer (withType number piece)
+unfolding numberAnswer pieceAnswer withType
+typed-some nothing piece n e = cc
+typed-some (some t) nothing n e = cc
+typed-some (some t) (some (sequenceA u)) n e = cc
+typed-some (some t) (some (sequenceB u)) n e = cc
+typed-some (some t) (some (special s id u)) n e = cc

@@ -1,0 +1,4 @@
+pub mod Template
+pub mod Comes
+pub mod Used
+pub mod Contracts

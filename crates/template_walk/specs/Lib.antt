@@ -1,0 +1,3 @@
+pub mod Contracts
+pub mod Counting
+pub mod Sequences

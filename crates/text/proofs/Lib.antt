@@ -1,6 +1,0 @@
-pub mod Numbered
-pub mod Nodes
-pub mod Checked
-pub mod RowText
-pub mod NodeSpan
-pub mod Samples

@@ -1,0 +1,3 @@
+pub mod CutBoth
+pub mod Size
+pub mod Contracts

@@ -1,0 +1,4 @@
+pub mod Cutting
+pub mod Fineness
+pub mod Placing
+pub mod Sizes

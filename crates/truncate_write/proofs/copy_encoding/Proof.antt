@@ -1,0 +1,39 @@
+-- `copy_encoding` writes what stands there, as it is. Assumes nothing.
+use mathlib.Core.Path.{ap}
+use native.Mathlib.Omega.{arith}
+use borrow.Author.Needs.{needs}
+use Rattle.record_extent.specs.declared.Extent.{Extent}
+use Rattle.record.proofs.Here.{here-nodes-fit, here-rows-fit}
+use Rattle.truncate_write.proofs.Placing.{copy-put}
+use Rattle.truncate_write.proofs.copy_encoding.Statement.{statement}
+use Rattle.truncate_write.proofs.copy_encoding.Tie as tie
+
+mul-copy : tie.Need-mul-copy
+mul-copy c = let s = c .before .before .before .before .before in omega (arith, s .pre .nodes-fit, s .good .1 .1 .1 .1 .1 .0 .0)
+
+copy-requires : tie.Need-copy-requires
+copy-requires c κs =
+    let q = c .before .before .before .before .before .before .pre in
+    (omega (arith, here-nodes-fit (q .here), ap (λ (s : Extent). s .nodes) (q .measured)), q .nodes-fit)
+
+mul-copy-2 : tie.Need-mul-copy-2
+mul-copy-2 c = let s = c .before .before .before .before .before .before .before .before .before .before in omega (arith, s .pre .rows-fit, s .good .1 .1 .1 .1 .1 .1 .1 .0 .0)
+
+copy-requires-2 : tie.Need-copy-requires-2
+copy-requires-2 c κs =
+    let q = c .before .before .before .before .before .before .before .before .before .before .before .pre in
+    (omega (arith, here-rows-fit (q .here), ap (λ (s : Extent). s .rows) (q .measured)), q .rows-fit)
+
+same-length : tie.Need-same-length
+same-length c = search needs
+
+same-length-2 : tie.Need-same-length-2
+same-length-2 c = search needs
+
+returns : tie.Need-returns
+returns c = λ E h e. copy-put h e (c .before .before .before .before .before .before .before .copy .ensures) (c .before .before .copy2 .ensures)
+
+pub copy-encoding-spec : {M : Type 1} → statement M
+copy-encoding-spec =
+    tie.close
+    (tie.spec mul-copy copy-requires mul-copy-2 copy-requires-2 same-length same-length-2 returns)

@@ -1,0 +1,2 @@
+pub mod Truncated
+pub mod Contracts

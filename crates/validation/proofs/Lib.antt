@@ -1,6 +1,0 @@
-pub mod Pieces
-mod Naming
-mod Counting
-mod Knowing
-mod Deciding
-mod Samples
