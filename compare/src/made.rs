@@ -1,13 +1,13 @@
-//! The files of the repository that this program makes: the C header, and the replay program's stored cases with what it
-//! must print.
+//! The files of the repository that this program makes: the C header, and the stored cases of the replay programs with what
+//! each must print.
 //! Paths are from the root of the repository, where `run` starts this program.
-use crate::tally::{self, LENT};
+use crate::tally::{self, Stored, LENT};
 use crate::{Operation, Replayed};
 use std::fs;
 use tokenizers::rng::Rng;
 
 pub struct Made {
-    path: &'static str,
+    path: String,
     command: &'static str,
     text: String,
 }
@@ -17,10 +17,21 @@ const STORE_SEED: u64 = 2;
 
 pub fn header() -> Made {
     let text = include_str!(concat!(env!("OUT_DIR"), "/noddrefyr.h")).to_string();
-    Made { path: "include/noddrefyr.h", command: "compare/run header", text }
+    Made { path: "include/noddrefyr.h".to_string(), command: "compare/run header", text }
 }
 
-/// Lines at the end of the stored cases, after those made of one case of each operation, that the program must find: what it
+/// The replay programs, each with the numbers of the operations whose cases it runs.
+const PROGRAMS: [(&str, &[u32]); 7] = [
+    ("replay_lookups", &[1, 2, 3, 4, 6, 7, 8, 9, 10, 11]),
+    ("replay_texts", &[14, 15, 17]),
+    ("replay_encodings", &[5, 12, 13]),
+    ("replay_cuts", &[16, 20, 21, 22]),
+    ("replay_joins", &[18, 19]),
+    ("replay_templates", &[23, 24, 25]),
+    ("replay_process", &[26]),
+];
+
+/// Lines at the end of the first program's cases, after those made of one case of each operation, that it must find: what it
 /// says of each.
 const WRONG: [(&str, &str); 7] = [
     ("1 0 0 0 7", "differs"),
@@ -32,11 +43,32 @@ const WRONG: [(&str, &str); 7] = [
     ("4294967295 0 0", "bad"),
 ];
 
-/// The stored cases, and what the program prints of them.
-pub fn stored_cases(operations: &[Operation], replayed: &[Replayed]) -> [Made; 2] {
+/// An operation's name, the form of its cases, and what makes them.
+type Kind = (&'static str, &'static str, fn(&mut Rng) -> Vec<Stored>);
+
+/// The number of an operation, with which the form of its cases begins.
+fn number(format: &str) -> u32 {
+    format.split(' ').next().and_then(|word| word.parse().ok()).expect("a number first")
+}
+
+/// The stored cases of every program, and what it prints of them.
+pub fn stored_cases(operations: &[Operation], replayed: &[Replayed]) -> Vec<Made> {
+    let kinds = operations.iter().map(|o| (o.name, o.format, o.store)).chain(replayed.iter().map(|o| (o.name, o.format, o.store)));
+    let kinds: Vec<Kind> = kinds.collect();
+    for (name, format, _) in &kinds {
+        let runs = PROGRAMS.iter().filter(|p| p.1.contains(&number(format))).count();
+        assert_eq!(runs, 1, "programs that replay {name}");
+    }
+    PROGRAMS.iter().enumerate().flat_map(|(i, (program, numbers))| {
+        let own: Vec<Kind> = kinds.iter().filter(|k| numbers.contains(&number(k.1))).copied().collect();
+        cases_of(program, &own, if i == 0 { &WRONG } else { &[] })
+    }).collect()
+}
+
+fn cases_of(program: &str, kinds: &[Kind], more: &[(&str, &'static str)]) -> [Made; 2] {
     let command = "compare/run store";
     let mut text = format!(
-        "# Cases for the replay program, made by `{command}` with seed {STORE_SEED}. The answers are those of the\n\
+        "# Cases for the program {program}, made by `{command}` with seed {STORE_SEED}. The answers are those of the\n\
          # Rust or of an independent reading of the paper, never those of the library under test.\n\
          # A line is one case: the operation's number, its inputs, the expected answers; a list is its length, then\n\
          # its numbers. What is lent has {LENT} in each number before the call, and is as long as the stored list; the answers\n\
@@ -44,7 +76,6 @@ pub fn stored_cases(operations: &[Operation], replayed: &[Replayed]) -> [Made; 2
     );
     let mut cases = 0;
     let mut wrong = vec![];
-    let kinds = operations.iter().map(|o| (o.name, o.format, o.store)).chain(replayed.iter().map(|o| (o.name, o.format, o.store)));
     for (name, format, store) in kinds {
         text += &format!("# {name}: {format}\n");
         let all = store(&mut Rng(STORE_SEED));
@@ -55,7 +86,7 @@ pub fn stored_cases(operations: &[Operation], replayed: &[Replayed]) -> [Made; 2
         wrong.extend(tally::wrong(&all).into_iter().map(|(what, line, said)| (format!("# {name}, {what}\n{line}\n"), said)));
     }
     text += "# What must be found: answers that differ, and lines that cannot be read.\n";
-    wrong.extend(WRONG.map(|(line, said)| (format!("{line}\n"), said)));
+    wrong.extend(more.iter().map(|(line, said)| (format!("{line}\n"), *said)));
     let mut printed = String::new();
     for (line, said) in &wrong {
         text += line;
@@ -63,12 +94,13 @@ pub fn stored_cases(operations: &[Operation], replayed: &[Replayed]) -> [Made; 2
     }
     let differ = wrong.iter().filter(|w| w.1 == "differs").count();
     printed += &format!("cases {}, differ {differ}, bad {}\n", cases + differ, wrong.len() - differ);
-    [Made { path: "crates/replay/stdin", command, text }, Made { path: "crates/replay/stdout", command, text: printed }]
+    let path = |file: &str| format!("crates/{program}/{file}");
+    [Made { path: path("stdin"), command, text }, Made { path: path("stdout"), command, text: printed }]
 }
 
 impl Made {
     pub fn write(&self) -> bool {
-        let done = fs::write(self.path, &self.text);
+        let done = fs::write(&self.path, &self.text);
         match &done {
             Ok(()) => println!("{}: written", self.path),
             Err(e) => println!("{}: {e}", self.path),
@@ -77,7 +109,7 @@ impl Made {
     }
 
     fn up_to_date(&self) -> bool {
-        let same = fs::read_to_string(self.path).is_ok_and(|text| text == self.text);
+        let same = fs::read_to_string(&self.path).is_ok_and(|text| text == self.text);
         println!("{}: {}", self.path, if same { "up to date" } else { "NOT UP TO DATE" });
         if !same {
             println!("  `{}` writes it", self.command);
@@ -88,6 +120,6 @@ impl Made {
 
 /// Says for each file whether it is what this program would write.
 pub fn all_up_to_date(operations: &[Operation], replayed: &[Replayed]) -> bool {
-    let [cases, printed] = stored_cases(operations, replayed);
-    [header(), cases, printed].iter().fold(true, |good, made| made.up_to_date() & good)
+    let made = [header()].into_iter().chain(stored_cases(operations, replayed));
+    made.fold(true, |good, made| made.up_to_date() & good)
 }

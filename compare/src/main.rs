@@ -37,12 +37,12 @@ pub struct Operation {
     pub format: &'static str,
     /// exhaustive cases, and `count` random inputs with what is made of each
     pub compare: fn(&mut Tally, &mut Rng, count: u64),
-    /// small cases for the replay program; the answers come from the oracle or an independent reading
+    /// small cases for a replay program; the answers come from the oracle or an independent reading
     pub store: fn(&mut Rng) -> Vec<Stored>,
     pub bench: fn(),
 }
 
-/// What cannot cross the C interface: it has stored cases, and only the replay program runs it.
+/// What cannot cross the C interface: it has stored cases, and only a replay program runs it.
 pub struct Replayed {
     pub name: &'static str,
     pub format: &'static str,

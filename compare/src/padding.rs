@@ -169,7 +169,7 @@ fn params(lengths: Lengths, pad: Pad) -> PaddingParams {
     }
 }
 
-/// The length that the Rust pads to, found from an encoding without rows that it pads.
+/// The length that the Rust pads to, worked out beforehand, so that it is not asked for more rows than the limits.
 fn target(encodings: &[Encoding], lengths: Lengths) -> u64 {
     let longest = encodings.iter().map(|e| e.len() as u64).max().unwrap_or(0);
     let length = if lengths.fixed { lengths.length as u64 } else { longest };

@@ -32,7 +32,7 @@ fn truncated(mut e: Encoding, cut: Cut) -> Encoding {
     e
 }
 
-/// The Rust's result, or the refusal: 3 where it panics.
+/// The Rust's result, or the refusal: 3 where it would panic, so that it is not called there.
 fn result(b: &Batch, cut: Cut) -> Result<Encoding, u32> {
     let e = one(b).ok_or(1u32)?;
     if 0 < cut.max && (cut.max as usize) < e.len() && cut.stride >= cut.max {
