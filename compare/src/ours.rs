@@ -87,12 +87,12 @@ impl Lent {
         }
     }
 
-    pub fn pad(&mut self, b: &Batch, length: u32, pad: Pad, added: &[u8]) -> u32 {
+    pub fn pad(&mut self, b: &Batch, length: u64, pad: Pad, added: &[u8]) -> u32 {
         let (bn, br, n, r) = (&b.nodes, &b.rows, &mut self.out.nodes, &mut self.out.rows);
         let counts = self.counts.as_mut_ptr();
         unsafe {
             bindings::noddrefyr_pad(
-                bn.as_ptr(), bn.len(), br.as_ptr(), br.len(), added.as_ptr(), added.len(), length as u64,
+                bn.as_ptr(), bn.len(), br.as_ptr(), br.len(), added.as_ptr(), added.len(), length,
                 pad.id, pad.type_id, pad.text_start, pad.text_length, pad.left, n.as_mut_ptr(), n.len(), r.as_mut_ptr(), r.len(), counts,
             )
         }
@@ -103,7 +103,7 @@ impl Lent {
         let counts = self.counts.as_mut_ptr();
         unsafe {
             bindings::noddrefyr_pad_encodings(
-                bn.as_ptr(), bn.len(), br.as_ptr(), br.len(), added.as_ptr(), added.len(), lengths.fixed, lengths.length as u64, lengths.multiple as u64,
+                bn.as_ptr(), bn.len(), br.as_ptr(), br.len(), added.as_ptr(), added.len(), lengths.fixed, lengths.length, lengths.multiple,
                 pad.id, pad.type_id, pad.text_start, pad.text_length, pad.left, n.as_mut_ptr(), n.len(), r.as_mut_ptr(), r.len(), counts,
             )
         }
@@ -152,12 +152,12 @@ pub struct Pad {
 #[derive(Clone, Copy, Debug)]
 pub struct Lengths {
     pub fixed: bool,
-    pub length: u32,
-    pub multiple: u32,
+    pub length: u64,
+    pub multiple: u64,
 }
 
 /// With an added pool of so many bytes.
-pub fn pad(b: &Batch, length: u32, pad: Pad, pool: usize, nodes: usize, rows: usize) -> Output {
+pub fn pad(b: &Batch, length: u64, pad: Pad, pool: usize, nodes: usize, rows: usize) -> Output {
     Lent::new(nodes, rows).told(|lent| lent.pad(b, length, pad, &vec![0; pool]))
 }
 

@@ -1,4 +1,5 @@
-//! pad and pad_encodings against the Rust's: small trees in both directions, multiples, the limits of a result.
+//! pad and pad_encodings against the Rust's: small trees in both directions, multiples, the limits of a result,
+//! lengths and multiples above 32 bits.
 use crate::inputs::{self, exact};
 use crate::lookups::one;
 use crate::ours::{self, Lent, Lengths, Output, Pad, BEFORE};
@@ -58,36 +59,53 @@ fn random_pad(r: &mut Rng) -> (Pad, usize) {
 const PLAIN: Pad = Pad { id: 9, type_id: 3, text_start: 1, text_length: 5, left: false };
 
 /// The rows that a batch would have when padded, which may be far too many to build.
-fn rows_padded(encodings: &[Encoding], length: u64) -> u64 {
-    encodings.iter().map(|e| length.max(e.len() as u64) + rows_padded(e.get_overflowing(), length)).sum()
+fn rows_padded(encodings: &[Encoding], length: u128) -> u128 {
+    encodings.iter().map(|e| length.max(e.len() as u128) + rows_padded(e.get_overflowing(), length)).sum()
+}
+
+/// Lengths around the limits of 32 and of 64 bits, of which none may be taken for its lower 32 bits.
+const WIDE: [u64; 8] = [u32::MAX as u64, 1 << 32, (1 << 32) + 3, 3 << 32, 1 << 63, (1 << 63) + 1, u64::MAX - 1, u64::MAX];
+
+/// A small length, or a wide one now and then.
+fn random_length(r: &mut Rng, below: u64) -> u64 {
+    match r.below(20) {
+        0 => WIDE[r.below(WIDE.len() as u64) as usize],
+        1 => (r.small(4) as u64) << 32 | r.small(below) as u64,
+        _ => r.small(below) as u64,
+    }
+}
+
+/// A length as the number of a stored case, which has 32 bits; a case with a wider one is not stored.
+fn narrow(length: u64) -> u32 {
+    length as u32
 }
 
 // ---- One encoding
 
-fn result_one(b: &Batch, length: u32, pad: Pad, pool: usize) -> Result<Vec<Encoding>, u32> {
+fn result_one(b: &Batch, length: u64, pad: Pad, pool: usize) -> Result<Vec<Encoding>, u32> {
     let mut e = one(b).ok_or(1u32)?;
     if outside(pad, pool) {
         return Err(14);
     }
-    if rows_padded(std::slice::from_ref(&e), length as u64) > MAX_ROWS as u64 {
+    if rows_padded(std::slice::from_ref(&e), length as u128) > MAX_ROWS as u128 {
         return Err(2);
     }
     e.pad(length as usize, pad.id, pad.type_id, &token(pad), direction(pad));
     Ok(vec![e])
 }
 
-fn case_one(t: &mut Tally, b: &Batch, length: u32, pad: Pad, pool: usize, which: &[usize]) {
+fn case_one(t: &mut Tally, b: &Batch, length: u64, pad: Pad, pool: usize, which: &[usize]) {
     let result = result_one(b, length, pad, pool);
     for &i in which {
         let (nodes, rows) = outputs_around(result.as_deref().map_err(|k| *k))[i];
         let got = ours::pad(b, length, pad, pool, nodes, rows);
         let want = output(result.as_deref().map_err(|k| *k), nodes, rows, BEFORE);
-        t.case(got == want, || (format!("ours gave refusal {}", got.refusal), line_one(b, length, pad, &want)));
+        t.case(got == want, || (format!("to {length} ours gave refusal {}", got.refusal), line_one(b, length, pad, &want)));
     }
 }
 
-fn line_one(b: &Batch, length: u32, pad: Pad, want: &Output) -> Line {
-    pad_line(Line::of(21).list(&b.nodes).list(&b.rows).number(length), pad, want)
+fn line_one(b: &Batch, length: u64, pad: Pad, want: &Output) -> Line {
+    pad_line(Line::of(21).list(&b.nodes).list(&b.rows).number(narrow(length)), pad, want)
 }
 
 fn compare_one(t: &mut Tally, r: &mut Rng, count: u64) {
@@ -104,19 +122,24 @@ fn compare_one(t: &mut Tally, r: &mut Rng, count: u64) {
     for i in 0..count {
         let b = inputs::random_one(r, i);
         let (pad, pool) = random_pad(r);
-        let length = [r.small(20), u32::MAX][(r.below(20) == 0) as usize];
+        let length = random_length(r, 20);
         case_one(t, &b, length, pad, pool, &ALL);
         inputs::some_damages(&mut |b| case_one(t, b, length, pad, pool, &[0]), r, &b, 2);
         case_one(t, &inputs::random_small(r, i), length, pad, pool, &ALL);
     }
-    let rows = MAX_ROWS as u32;
-    for (shape, length) in [(vec![(0, 0)], rows), (vec![(0, 0)], rows + 1), (vec![(1, 1), (0, 0)], rows / 2), (vec![(1, 1), (0, 0)], rows / 2 + 1), (vec![(rows, 0)], 5), (vec![(rows, 1), (0, 0)], 0), (vec![(rows, 1), (0, 0)], 1)] {
+    for length in WIDE {
+        for shape in [vec![(0, 0)], vec![(3, 1), (5, 0)]] {
+            case_one(t, &exact(&shape), length, PLAIN, 8, &ALL);
+        }
+    }
+    let (rows, most) = (MAX_ROWS as u32, MAX_ROWS as u64);
+    for (shape, length) in [(vec![(0, 0)], most), (vec![(0, 0)], most + 1), (vec![(1, 1), (0, 0)], most / 2), (vec![(1, 1), (0, 0)], most / 2 + 1), (vec![(rows, 0)], 5), (vec![(rows, 1), (0, 0)], 0), (vec![(rows, 1), (0, 0)], 1)] {
         for left in [false, true] {
             case_one(t, &exact(&shape), length, Pad { left, ..PLAIN }, 8, &ALL);
         }
     }
     let wide = exact(&[vec![(0, MAX_NODES as u32 - 1)], vec![(0, 0); MAX_NODES - 1]].concat());
-    for length in [15, 16, 17, u32::MAX] {
+    for length in [15, 16, 17, u32::MAX as u64] {
         case_one(t, &wide, length, PLAIN, 8, &ALL);
     }
 }
@@ -126,7 +149,7 @@ fn store_one(r: &mut Rng) -> Vec<Stored> {
     for i in 0..16u32 {
         let b = inputs::random_one(r, 3 * i as u64 + 1);
         let pad = Pad { id: 100 + i, type_id: i % 3, text_start: i % 9, text_length: i % 4, left: i % 2 == 1 };
-        let length = if i == 5 { u32::MAX } else { r.small(8) };
+        let length = if i == 5 { u32::MAX as u64 } else { r.small(8) as u64 };
         let result = result_one(&b, length, pad, 8);
         let (nodes, rows) = outputs_around(result.as_deref().map_err(|k| *k))[i as usize % 4];
         let want = output(result.as_deref().map_err(|k| *k), nodes, rows, LENT);
@@ -170,13 +193,25 @@ fn params(lengths: Lengths, pad: Pad) -> PaddingParams {
 }
 
 /// The length that the Rust pads to, worked out beforehand, so that it is not asked for more rows than the limits.
-fn target(encodings: &[Encoding], lengths: Lengths) -> u64 {
-    let longest = encodings.iter().map(|e| e.len() as u64).max().unwrap_or(0);
-    let length = if lengths.fixed { lengths.length as u64 } else { longest };
-    match lengths.multiple as u64 {
+fn target(encodings: &[Encoding], lengths: Lengths) -> u128 {
+    let longest = encodings.iter().map(|e| e.len() as u128).max().unwrap_or(0);
+    let length = if lengths.fixed { lengths.length as u128 } else { longest };
+    match lengths.multiple as u128 {
         0 => length,
         multiple => length.div_ceil(multiple) * multiple,
     }
+}
+
+/// The Rust's answer. Multiple 0 is the Rust's `Some(0)` and its `None`, which have to agree.
+fn padded(encodings: Vec<Encoding>, params: PaddingParams) -> Vec<Encoding> {
+    let mut result = encodings.clone();
+    pad_encodings(&mut result, &params).expect("no error");
+    if params.pad_to_multiple_of == Some(0) {
+        let mut unrounded = encodings;
+        pad_encodings(&mut unrounded, &PaddingParams { pad_to_multiple_of: None, ..params }).expect("no error");
+        assert_eq!(to_batch(&result), to_batch(&unrounded), "multiple 0 and no multiple differ");
+    }
+    result
 }
 
 fn result_batch(b: &Batch, lengths: Lengths, pad: Pad, pool: usize) -> Result<Vec<Encoding>, u32> {
@@ -184,16 +219,15 @@ fn result_batch(b: &Batch, lengths: Lengths, pad: Pad, pool: usize) -> Result<Ve
     if outside(pad, pool) {
         return Err(14);
     }
-    let mut encodings = from_batch(&b.nodes, &b.rows);
-    if rows_padded(&encodings, target(&encodings, lengths)) > MAX_ROWS as u64 {
+    let encodings = from_batch(&b.nodes, &b.rows);
+    if rows_padded(&encodings, target(&encodings, lengths)) > MAX_ROWS as u128 {
         return Err(2);
     }
-    pad_encodings(&mut encodings, &params(lengths, pad)).expect("no error");
-    Ok(encodings)
+    Ok(padded(encodings, params(lengths, pad)))
 }
 
 fn line_batch(b: &Batch, lengths: Lengths, pad: Pad, want: &Output) -> Line {
-    let line = Line::of(22).list(&b.nodes).list(&b.rows).number(lengths.fixed as u32).number(lengths.length).number(lengths.multiple);
+    let line = Line::of(22).list(&b.nodes).list(&b.rows).number(lengths.fixed as u32).number(narrow(lengths.length)).number(narrow(lengths.multiple));
     pad_line(line, pad, want)
 }
 
@@ -203,7 +237,7 @@ fn case_batch(t: &mut Tally, b: &Batch, lengths: Lengths, pad: Pad, pool: usize,
         let (nodes, rows) = outputs_around(result.as_deref().map_err(|k| *k))[i];
         let got = ours::pad_encodings(b, lengths, pad, pool, nodes, rows);
         let want = output(result.as_deref().map_err(|k| *k), nodes, rows, BEFORE);
-        t.case(got == want, || (format!("ours gave refusal {}", got.refusal), line_batch(b, lengths, pad, &want)));
+        t.case(got == want, || (format!("{lengths:?}: ours gave refusal {}", got.refusal), line_batch(b, lengths, pad, &want)));
     }
 }
 
@@ -218,22 +252,30 @@ fn compare_batch(t: &mut Tally, r: &mut Rng, count: u64) {
         for multiple in 0..=42 {
             let lengths = Lengths { fixed: true, length, multiple };
             case_batch(t, &exact(&[(3, 1), (2, 0), (5, 0)]), lengths, PLAIN, 8, &[0]);
-            case_batch(t, &exact(&[(length, 0), (2, 0)]), Lengths { fixed: false, ..lengths }, PLAIN, 8, &[0]);
+            case_batch(t, &exact(&[(length as u32, 0), (2, 0)]), Lengths { fixed: false, ..lengths }, PLAIN, 8, &[0]);
         }
     }
     for i in 0..count {
         let many = r.below(5);
         let b = random_batch(r, many, Size { levels: i % 3, windows: 2, rows: 1 + i % 9, offset: 40 });
         let (pad, pool) = random_pad(r);
-        let length = [r.small(20), u32::MAX][(r.below(20) == 0) as usize];
-        let multiple = [r.small(9), u32::MAX][(r.below(20) == 0) as usize];
-        let lengths = Lengths { fixed: r.below(2) == 0, length, multiple };
+        let lengths = Lengths { fixed: r.below(2) == 0, length: random_length(r, 20), multiple: random_length(r, 9) };
         case_batch(t, &b, lengths, pad, pool, &ALL);
         if !b.nodes.is_empty() {
             inputs::some_damages(&mut |b| case_batch(t, b, lengths, pad, pool, &[0]), r, &b, 2);
         }
     }
-    for (encodings, length, multiple) in [(MAX_NODES, 16, 0), (MAX_NODES, 17, 0), (MAX_NODES, 15, 16), (MAX_NODES, 16, 17), (1, u32::MAX, u32::MAX), (1, u32::MAX, 2), (0, u32::MAX, 7)] {
+    for length in [0, 1, 3].into_iter().chain(WIDE) {
+        for multiple in [0, 1, 2, 3].into_iter().chain(WIDE) {
+            for fixed in [false, true] {
+                for shape in [vec![], vec![(0, 0)], vec![(3, 0), (0, 0)]] {
+                    case_batch(t, &exact(&shape), Lengths { fixed, length, multiple }, PLAIN, 8, &ALL);
+                }
+            }
+        }
+    }
+    const NARROW: u64 = u32::MAX as u64;
+    for (encodings, length, multiple) in [(MAX_NODES, 16, 0), (MAX_NODES, 17, 0), (MAX_NODES, 15, 16), (MAX_NODES, 16, 17), (1, NARROW, NARROW), (1, NARROW, 2), (0, NARROW, 7)] {
         for fixed in [false, true] {
             case_batch(t, &exact(&vec![(0, 0); encodings]), Lengths { fixed, length, multiple }, PLAIN, 8, &ALL);
         }
@@ -245,7 +287,7 @@ fn store_batch(r: &mut Rng) -> Vec<Stored> {
     for i in 0..16u32 {
         let b = random_batch(r, i as u64 % 4, Size { levels: i as u64 % 2, windows: 2, rows: 4, offset: 40 });
         let pad = Pad { id: 100 + i, type_id: i % 3, text_start: i % 9, text_length: i % 4, left: i % 2 == 1 };
-        let lengths = Lengths { fixed: i % 3 == 0, length: r.small(8), multiple: r.small(5) };
+        let lengths = Lengths { fixed: i % 3 == 0, length: r.small(8) as u64, multiple: r.small(5) as u64 };
         let result = result_batch(&b, lengths, pad, 8);
         let (nodes, rows) = outputs_around(result.as_deref().map_err(|k| *k))[i as usize / 2 % 4];
         let want = output(result.as_deref().map_err(|k| *k), nodes, rows, LENT);
