@@ -1,5 +1,5 @@
--- How the answers of the lookups between characters and rows cross the C interface, each with what the lent numbers were. Where something may be
--- absent, the first number says whether it is there, and all are 0 where it is not.
+-- How the answers of the lookups between characters and rows cross the C interface, each with what the lent numbers were.
+-- Where something may be absent, the first number says whether it is there, and all are 0 where it is not.
 -- Assumes nothing: these are definitions.
 use Prim.Native.Nat.{ℕ}
 use mathlib.Core.List.{List, [], _∷_}

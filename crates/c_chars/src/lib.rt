@@ -3,11 +3,8 @@
 // too.
 ghost use Rattle.c_chars.specs.Answers.{tokenCrossed, tokenCharsCrossed};
 ghost use Rattle.c_crossing.specs.Crossing.{Crosses};
-ghost use Rattle.lookup_search.specs.Answers.{tokenAnswer};
-ghost use Rattle.lookup_chars.specs.Answers.{tokenCharsAnswer};
-ghost use Rattle.lookup_chars.specs.Chars.{charToToken, tokenToChars};
-ghost use Rattle.record.specs.Read.{read, ofOne};
-ghost use Rattle.record.specs.declared.Refusal.the-variants.{MalformedRecord};
+ghost use Rattle.lookup_chars.specs.Answers.{charToTokenAnswer, tokenToCharsAnswer};
+ghost use Rattle.record.specs.Read.{read};
 use lookup_chars::TokenCharsAnswer;
 use lookup_search::TokenAnswer;
 use record::Place;
@@ -24,8 +21,7 @@ pub extern "C" fn noddrefyr_char_to_token(
 ) -> u32
     ensures { λ r. ⌜ Crosses
         (tokenCrossed (now (answer .entry))
-        (ofOne (TokenAnswer.Refused MalformedRecord) (λ E. tokenAnswer (charToToken E place «sequence_id»))
-        (read (now (nodes .entry)) (now (rows .entry)))))
+        (charToTokenAnswer (read (now (nodes .entry)) (now (rows .entry))) place «sequence_id»))
         r (now (answer .exit)) ⌝ }
 {
     let found = lookup_chars::char_to_token(nodes, rows, Place(place), sequence_id);
@@ -52,8 +48,7 @@ pub extern "C" fn noddrefyr_token_to_chars(
 ) -> u32
     ensures { λ r. ⌜ Crosses
         (tokenCharsCrossed (now (answer .entry))
-        (ofOne (TokenCharsAnswer.Refused MalformedRecord) (λ E. tokenCharsAnswer (tokenToChars E token))
-        (read (now (nodes .entry)) (now (rows .entry)))))
+        (tokenToCharsAnswer (read (now (nodes .entry)) (now (rows .entry))) token))
         r (now (answer .exit)) ⌝ }
 {
     let found = lookup_chars::token_to_chars(nodes, rows, Row(token));

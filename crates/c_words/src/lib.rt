@@ -2,13 +2,9 @@
 // through lent numbers, which a refusal leaves as they were. include/noddrefyr.h is made from this file too.
 ghost use Rattle.c_crossing.specs.Crossing.{Crosses};
 ghost use Rattle.c_words.specs.Answers.{tokensCrossed, charsCrossed, tokenWordCrossed, wordCrossed};
-ghost use Rattle.lookup_search.specs.Answers.{tokensAnswer};
-ghost use Rattle.lookup_words.specs.Answers.{charsAnswer};
-ghost use Rattle.lookup_chars.specs.Answers.{tokenWordAnswer, wordAnswer};
-ghost use Rattle.lookup_words.specs.Words.{wordToTokens, wordToChars};
-ghost use Rattle.lookup_chars.specs.Chars.{tokenToWord, charToWord};
-ghost use Rattle.record.specs.Read.{read, ofOne};
-ghost use Rattle.record.specs.declared.Refusal.the-variants.{MalformedRecord};
+ghost use Rattle.lookup_chars.specs.Answers.{tokenToWordAnswer, charToWordAnswer};
+ghost use Rattle.lookup_words.specs.Answers.{wordToTokensAnswer, wordToCharsAnswer};
+ghost use Rattle.record.specs.Read.{read};
 use lookup_chars::TokenWordAnswer;
 use lookup_chars::WordAnswer;
 use lookup_search::TokensAnswer;
@@ -28,8 +24,7 @@ pub extern "C" fn noddrefyr_word_to_tokens(
 ) -> u32
     ensures { λ r. ⌜ Crosses
         (tokensCrossed (now (answer .entry))
-        (ofOne (TokensAnswer.Refused MalformedRecord) (λ E. tokensAnswer (wordToTokens E word «sequence_id»))
-        (read (now (nodes .entry)) (now (rows .entry)))))
+        (wordToTokensAnswer (read (now (nodes .entry)) (now (rows .entry))) word «sequence_id»))
         r (now (answer .exit)) ⌝ }
 {
     let found = lookup_words::word_to_tokens(nodes, rows, Word(word), sequence_id);
@@ -57,8 +52,7 @@ pub extern "C" fn noddrefyr_word_to_chars(
 ) -> u32
     ensures { λ r. ⌜ Crosses
         (charsCrossed (now (answer .entry))
-        (ofOne (CharsAnswer.Refused MalformedRecord) (λ E. charsAnswer (wordToChars E word «sequence_id»))
-        (read (now (nodes .entry)) (now (rows .entry)))))
+        (wordToCharsAnswer (read (now (nodes .entry)) (now (rows .entry))) word «sequence_id»))
         r (now (answer .exit)) ⌝ }
 {
     let found = lookup_words::word_to_chars(nodes, rows, Word(word), sequence_id);
@@ -85,8 +79,7 @@ pub extern "C" fn noddrefyr_token_to_word(
 ) -> u32
     ensures { λ r. ⌜ Crosses
         (tokenWordCrossed (now (answer .entry))
-        (ofOne (TokenWordAnswer.Refused MalformedRecord) (λ E. tokenWordAnswer (tokenToWord E token))
-        (read (now (nodes .entry)) (now (rows .entry)))))
+        (tokenToWordAnswer (read (now (nodes .entry)) (now (rows .entry))) token))
         r (now (answer .exit)) ⌝ }
 {
     let found = lookup_chars::token_to_word(nodes, rows, Row(token));
@@ -114,8 +107,7 @@ pub extern "C" fn noddrefyr_char_to_word(
 ) -> u32
     ensures { λ r. ⌜ Crosses
         (wordCrossed (now (answer .entry))
-        (ofOne (WordAnswer.Refused MalformedRecord) (λ E. wordAnswer (charToWord E place «sequence_id»))
-        (read (now (nodes .entry)) (now (rows .entry)))))
+        (charToWordAnswer (read (now (nodes .entry)) (now (rows .entry))) place «sequence_id»))
         r (now (answer .exit)) ⌝ }
 {
     let found = lookup_chars::char_to_word(nodes, rows, Place(place), sequence_id);

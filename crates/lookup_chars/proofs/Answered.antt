@@ -9,7 +9,8 @@ use Rattle.lookup_ranges.specs.Contracts.{sequenceFound}
 use Rattle.lookup_ranges.specs.declared.Sequence as sequence
 use Rattle.lookup_search.specs.declared.TokenAnswer as token
 use Rattle.lookup_search.specs.Answers.{tokenAnswer}
-use Rattle.lookup_chars.specs.Answers.{tokenWordAnswer, wordAnswer, wordAlone}
+use Rattle.lookup_chars.specs.Answers.{tokenWordAnswer, wordAnswer}
+use Rattle.lookup_chars.specs.Contracts.{wordAlone}
 
 abbrev pub tokenBack : token.TokenAnswer → Option ℕ
 tokenBack (token.the-variants.Refused k) = nothing

@@ -1,2 +1,3 @@
 pub mod Chars
 pub mod Answers
+pub mod Contracts

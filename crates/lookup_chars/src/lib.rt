@@ -3,11 +3,12 @@
 // is a normal answer.
 ghost use mathlib.Core.Bool.{true};
 ghost use mathlib.Core.Path.{_≡_};
-ghost use Rattle.lookup_chars.specs.Answers.{tokenCharsAnswer, tokenWordAnswer, wordAnswer, wordAlone};
+ghost use Rattle.lookup_chars.specs.Answers.{tokenCharsAnswer, tokenWordAnswer, wordAnswer, charToTokenAnswer, tokenToCharsAnswer, tokenToWordAnswer, charToWordAnswer};
 ghost use Rattle.lookup_chars.specs.Chars.{charToToken, tokenToChars, tokenToWord, charToWord};
+ghost use Rattle.lookup_chars.specs.Contracts.{wordAlone};
 ghost use Rattle.lookup_search.specs.Answers.{tokenAnswer};
 ghost use Rattle.lookup_search.specs.Contracts.{OfOne};
-ghost use Rattle.record.specs.Read.{read, ofOne, isOne};
+ghost use Rattle.record.specs.Read.{read, isOne};
 use lookup_ranges::Sequence;
 use lookup_search::TokenAnswer;
 use record::Column;
@@ -42,11 +43,9 @@ pub enum WordAnswer {
     Found(Word),
 }
 
-// The row of a sequence that holds a character.
+// The row of a sequence that holds a character. Refusal: 1.
 pub fn char_to_token(nodes: &[u32], rows: &[u32], place: Place, sequence_id: u32) -> TokenAnswer
-    ensures { λ r. ⌜ r ≡ ofOne (TokenAnswer.Refused Refusal.MalformedRecord)
-        (λ E. tokenAnswer (charToToken E (place .0) «sequence_id»))
-        (read (now (nodes .entry)) (now (rows .entry))) ⌝ }
+    ensures { λ r. ⌜ r ≡ charToTokenAnswer (read (now (nodes .entry)) (now (rows .entry))) (place .0) «sequence_id» ⌝ }
 {
     if record_check::is_one(nodes, rows) {
         return token_of_char(nodes, rows, place, sequence_id);
@@ -54,10 +53,9 @@ pub fn char_to_token(nodes: &[u32], rows: &[u32], place: Place, sequence_id: u32
     TokenAnswer::Refused(Refusal::MalformedRecord)
 }
 
-// The characters of a row.
+// The sequence and the characters of a row. Refusal: 1.
 pub fn token_to_chars(nodes: &[u32], rows: &[u32], token: Row) -> TokenCharsAnswer
-    ensures { λ r. ⌜ r ≡ ofOne (TokenCharsAnswer.Refused Refusal.MalformedRecord)
-        (λ E. tokenCharsAnswer (tokenToChars E (token .0))) (read (now (nodes .entry)) (now (rows .entry))) ⌝ }
+    ensures { λ r. ⌜ r ≡ tokenToCharsAnswer (read (now (nodes .entry)) (now (rows .entry))) (token .0) ⌝ }
 {
     if record_check::is_one(nodes, rows) {
         return chars_of_token(nodes, rows, token);
@@ -65,10 +63,9 @@ pub fn token_to_chars(nodes: &[u32], rows: &[u32], token: Row) -> TokenCharsAnsw
     TokenCharsAnswer::Refused(Refusal::MalformedRecord)
 }
 
-// The word of a row.
+// The sequence and the word of a row. Refusal: 1.
 pub fn token_to_word(nodes: &[u32], rows: &[u32], token: Row) -> TokenWordAnswer
-    ensures { λ r. ⌜ r ≡ ofOne (TokenWordAnswer.Refused Refusal.MalformedRecord)
-        (λ E. tokenWordAnswer (tokenToWord E (token .0))) (read (now (nodes .entry)) (now (rows .entry))) ⌝ }
+    ensures { λ r. ⌜ r ≡ tokenToWordAnswer (read (now (nodes .entry)) (now (rows .entry))) (token .0) ⌝ }
 {
     if record_check::is_one(nodes, rows) {
         return word_of_token(nodes, rows, token);
@@ -76,17 +73,17 @@ pub fn token_to_word(nodes: &[u32], rows: &[u32], token: Row) -> TokenWordAnswer
     TokenWordAnswer::Refused(Refusal::MalformedRecord)
 }
 
-// The word of a sequence that holds a character.
+// The word of a sequence that holds a character. Refusal: 1.
 pub fn char_to_word(nodes: &[u32], rows: &[u32], place: Place, sequence_id: u32) -> WordAnswer
-    ensures { λ r. ⌜ r ≡ ofOne (WordAnswer.Refused Refusal.MalformedRecord)
-        (λ E. wordAnswer (charToWord E (place .0) «sequence_id»))
-        (read (now (nodes .entry)) (now (rows .entry))) ⌝ }
+    ensures { λ r. ⌜ r ≡ charToWordAnswer (read (now (nodes .entry)) (now (rows .entry))) (place .0) «sequence_id» ⌝ }
 {
     if record_check::is_one(nodes, rows) {
         return word_of_char(nodes, rows, place, sequence_id);
     }
     WordAnswer::Refused(Refusal::MalformedRecord)
 }
+
+// ---- The same, where the record is known to be one encoding
 
 fn token_of_char(nodes: &[u32], rows: &[u32], place: Place, sequence_id: u32) -> TokenAnswer
     requires { ⌜ isOne (read (now nodes) (now rows)) ≡ true ⌝ }

@@ -7,10 +7,10 @@ ghost use Prim.Native.Nat.{_+_, _*_, _≤_};
 ghost use lib.ListN.{length, getD};
 ghost use Rattle.lookup_search.specs.Answers.{tokensAnswer};
 ghost use Rattle.lookup_search.specs.Contracts.{OfOne, atOffsetStart, atOffsetEnd};
-ghost use Rattle.lookup_words.specs.Answers.{charsAnswer};
+ghost use Rattle.lookup_words.specs.Answers.{charsAnswer, wordToTokensAnswer, wordToCharsAnswer};
 ghost use Rattle.lookup_words.specs.Words.{wordToTokens, wordToChars};
 ghost use Rattle.record.specs.Flat.{rowWidth};
-ghost use Rattle.record.specs.Read.{read, ofOne, isOne};
+ghost use Rattle.record.specs.Read.{read, isOne};
 use lookup_search::TokensAnswer;
 use record::Column;
 use record::Encoding;
@@ -25,11 +25,9 @@ pub enum CharsAnswer {
     Found { start: Place, end: Place },
 }
 
-// The rows of a word in a sequence.
+// The rows of a word in a sequence. Refusal: 1.
 pub fn word_to_tokens(nodes: &[u32], rows: &[u32], word: Word, sequence_id: u32) -> TokensAnswer
-    ensures { λ r. ⌜ r ≡ ofOne (TokensAnswer.Refused Refusal.MalformedRecord)
-        (λ E. tokensAnswer (wordToTokens E (word .0) «sequence_id»))
-        (read (now (nodes .entry)) (now (rows .entry))) ⌝ }
+    ensures { λ r. ⌜ r ≡ wordToTokensAnswer (read (now (nodes .entry)) (now (rows .entry))) (word .0) «sequence_id» ⌝ }
 {
     if record_check::is_one(nodes, rows) {
         return tokens_of_word(nodes, rows, word, sequence_id);
@@ -37,11 +35,9 @@ pub fn word_to_tokens(nodes: &[u32], rows: &[u32], word: Word, sequence_id: u32)
     TokensAnswer::Refused(Refusal::MalformedRecord)
 }
 
-// The characters of a word in a sequence.
+// The characters of a word in a sequence. Refusal: 1.
 pub fn word_to_chars(nodes: &[u32], rows: &[u32], word: Word, sequence_id: u32) -> CharsAnswer
-    ensures { λ r. ⌜ r ≡ ofOne (CharsAnswer.Refused Refusal.MalformedRecord)
-        (λ E. charsAnswer (wordToChars E (word .0) «sequence_id»))
-        (read (now (nodes .entry)) (now (rows .entry))) ⌝ }
+    ensures { λ r. ⌜ r ≡ wordToCharsAnswer (read (now (nodes .entry)) (now (rows .entry))) (word .0) «sequence_id» ⌝ }
 {
     if record_check::is_one(nodes, rows) {
         return chars_of_word(nodes, rows, word, sequence_id);

@@ -1,6 +1,6 @@
 -- `word_alone` takes an answer apart. Assumes nothing.
 use mathlib.Core.Path.{sym, ap}
-use Rattle.lookup_chars.specs.Answers.{wordAlone}
+use Rattle.lookup_chars.specs.Contracts.{wordAlone}
 use borrow.Author.Needs.{needs}
 use Rattle.lookup_chars.proofs.word_alone.Statement.{statement}
 use Rattle.lookup_chars.proofs.word_alone.Tie as tie

@@ -1,7 +1,8 @@
 -- `word_of_char` gives the word of the row that holds the place. Assumes nothing.
 use mathlib.Core.Path.{sym, ap, _∙_}
 use Rattle.lookup_chars.specs.Chars.{charToToken, tokenToWord}
-use Rattle.lookup_chars.specs.Answers.{wordAnswer, wordAlone}
+use Rattle.lookup_chars.specs.Answers.{wordAnswer}
+use Rattle.lookup_chars.specs.Contracts.{wordAlone}
 use Rattle.lookup_chars.proofs.Answered.{tokenBack, token-back, token-granted, word-alone}
 use Rattle.lookup_chars.proofs.CharsStored.{char-word-nothing, char-word-found}
 use borrow.Author.Needs.{needs}
