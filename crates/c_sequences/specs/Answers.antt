@@ -12,7 +12,7 @@ use Rattle.c_crossing.specs.Crossing.{Crossed, crossed}
 
 abbrev pub rangeCrossed : List ℕ → range.RangeAnswer → Crossed
 rangeCrossed was (range.the-variants.Refused k) = crossed (numberOf k) was
-rangeCrossed was (range.the-variants.Rows b) = crossed 0 (b .start ∷ b .end ∷ [])
+rangeCrossed was (range.the-variants.Rows a b) = crossed 0 (a .0 ∷ b .0 ∷ [])
 
 abbrev pub countCrossed : List ℕ → count.CountAnswer → Crossed
 countCrossed was (count.the-variants.Refused k) = crossed (numberOf k) was

@@ -28,8 +28,8 @@ pub extern "C" fn noddrefyr_sequence_range(
     let found = lookup_sequences::sequence_range(nodes, rows, sequence_id);
     match found {
         RangeAnswer::Refused(k) => k.number(),
-        RangeAnswer::Rows(bounds) => {
-            *answer = [bounds.start, bounds.end];
+        RangeAnswer::Rows { start, end } => {
+            *answer = [start.0, end.0];
             0
         }
     }

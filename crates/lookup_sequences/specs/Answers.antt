@@ -1,4 +1,5 @@
--- What the operations answer, refusals included. How an answer's numbers cross the C interface is said in c_crossing.
+-- What the lookups of sequences answer of a batch, refusals included. How an answer's numbers cross the C interface is said
+-- in c_sequences.
 -- Assumes nothing: these are definitions.
 use mathlib.Core.Bool.{cond}
 use Prim.Native.Nat.{ℕ, _*_}
@@ -7,6 +8,7 @@ use lib.Dec.{leb}
 use lib.ListN.{length}
 use Rattle.record.specs.Read.{Reading, ofOne}
 use Rattle.record.specs.Outcome.{over}
+use Rattle.record.specs.declared.Bounds.{Bounds}
 use Rattle.record.specs.declared.Refusal.{Refusal}
 use Rattle.record.specs.declared.Refusal.the-variants.{MalformedRecord, NoRoom}
 use Rattle.lookup_ranges.specs.Ranges.{sequenceRange, nSequences, tokenToSequence, getSequenceIds}
@@ -22,20 +24,25 @@ use Rattle.lookup_sequences.specs.declared.SequenceAnswer.the-variants a
 use Rattle.lookup_sequences.specs.declared.ColumnAnswer.{ColumnAnswer}
 use Rattle.lookup_sequences.specs.declared.ColumnAnswer.the-variants as column-answer
 
--- ---- What each operation answers of a batch. "lookups: 1", "any other number is refused with 1"
+-- the rows of a sequence: from start up to, not including, end
+abbrev pub rowsAnswer : Bounds → RangeAnswer
+rowsAnswer b = range-answer.Rows (record { 0 = b .start }) (record { 0 = b .end })
 
-abbrev pub rangeAnswer : Reading → ℕ → RangeAnswer
-rangeAnswer r id = ofOne (range-answer.Refused MalformedRecord) (λ E. range-answer.Rows (sequenceRange E id)) r
-
-abbrev pub countAnswer : Reading → CountAnswer
-countAnswer r = ofOne (count-answer.Refused MalformedRecord) (λ E. count-answer.Count (nSequences E)) r
-
+-- nothing, or the sequence that holds a row
 abbrev pub foundAnswer : Sequence → SequenceAnswer
 foundAnswer sequence.Nothing = sequence-answer.Nothing
 foundAnswer (sequence.Found k) = sequence-answer.Found k
 
+-- ---- The operations. "Lookups, span: 1. None is a normal result."
+
+abbrev pub rangeAnswer : Reading → ℕ → RangeAnswer
+rangeAnswer batch id = ofOne (range-answer.Refused MalformedRecord) (λ E. rowsAnswer (sequenceRange E id)) batch
+
+abbrev pub countAnswer : Reading → CountAnswer
+countAnswer batch = ofOne (count-answer.Refused MalformedRecord) (λ E. count-answer.Count (nSequences E)) batch
+
 abbrev pub sequenceAnswer : Reading → ℕ → SequenceAnswer
-sequenceAnswer r row = ofOne (sequence-answer.Refused MalformedRecord) (λ E. foundAnswer (sequenceFound (tokenToSequence E row))) r
+sequenceAnswer batch row = ofOne (sequence-answer.Refused MalformedRecord) (λ E. foundAnswer (sequenceFound (tokenToSequence E row))) batch
 
 -- ---- The sequence column: its outcome, the answer, and what it leaves in the output
 
@@ -46,10 +53,10 @@ pub data ColumnOutcome : Type 0 where
 
 -- "the sequence column also 2": into an output of so many numbers
 abbrev pub sequenceIds : Reading → ℕ → ColumnOutcome
-sequenceIds r room =
+sequenceIds batch room =
     ofOne (refused MalformedRecord)
     (λ E. cond (leb (2 * length (E .rows)) room) (done (length (E .rows)) (getSequenceIds E)) (refused NoRoom))
-    r
+    batch
 
 abbrev pub columnAnswer : ColumnOutcome → ColumnAnswer
 columnAnswer (refused k) = column-answer.Refused k

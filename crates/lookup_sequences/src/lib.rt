@@ -5,13 +5,13 @@ ghost use lib.ListN.{length};
 ghost use Rattle.lookup_sequences.specs.Answers.{rangeAnswer, countAnswer, sequenceAnswer, sequenceIds, columnAnswer, columnLeft};
 ghost use Rattle.record.specs.Read.{read};
 use lookup_ranges::Sequence;
-use record::Bounds;
 use record::Refusal;
 use record::Row;
 
+// The rows of a sequence: from start up to, not including, end.
 pub enum RangeAnswer {
     Refused(Refusal),
-    Rows(Bounds),
+    Rows { start: Row, end: Row },
 }
 
 pub enum CountAnswer {
@@ -36,7 +36,11 @@ pub fn sequence_range(nodes: &[u32], rows: &[u32], sequence_id: u32) -> RangeAns
     ensures { λ r. ⌜ r ≡ rangeAnswer (read (now (nodes .entry)) (now (rows .entry))) «sequence_id» ⌝ }
 {
     if record_check::is_one(nodes, rows) {
-        return RangeAnswer::Rows(lookup_ranges::range_of(nodes, sequence_id));
+        let bounds = lookup_ranges::range_of(nodes, sequence_id);
+        return RangeAnswer::Rows {
+            start: Row(bounds.start),
+            end: Row(bounds.end),
+        };
     }
     RangeAnswer::Refused(Refusal::MalformedRecord)
 }

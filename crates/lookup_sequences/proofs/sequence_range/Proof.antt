@@ -1,7 +1,7 @@
 -- `sequence_range` answers what `range_of` reads of the one encoding. Assumes nothing.
 use mathlib.Core.Path.{sym, ap, _∙_}
 use Rattle.record.proofs.One.{not-one}
-use Rattle.lookup_sequences.specs.declared.RangeAnswer.the-variants.{Rows}
+use Rattle.lookup_sequences.specs.Answers.{rowsAnswer}
 use Rattle.lookup_ranges.proofs.Top.{top-there, top-answer}
 use borrow.Author.Needs.{needs}
 use Rattle.lookup_sequences.proofs.sequence_range.Statement.{statement}
@@ -16,7 +16,7 @@ range-of-requires c κs = top-there _ _ (sym (c .before .is-one .ensures) ∙ c 
 returns : tie.Need-returns
 returns c =
     top-answer _ _ _ _ _ (sym (c .before .before .is-one .ensures) ∙ c .before .if1 .taken)
-    (λ rows E h. ap Rows (c .range-of .ensures rows E h))
+    (λ rows E h. ap rowsAnswer (c .range-of .ensures rows E h))
 
 returns-2 : tie.Need-returns-2
 returns-2 c = sym (not-one _ _ _ (sym (c .before .is-one .ensures) ∙ c .if1 .left))
