@@ -3,10 +3,11 @@
 use mathlib.Core.Path.{_≡_}
 use mathlib.Core.Option.{Option, none as nothing, some}
 use Prim.Native.Nat.{ℕ, _*_}
+use Prim.Native.String.{String}
 use mathlib.Core.Bool.{Bool, true, false}
 use mathlib.Core.List.{List, [], _∷_, _++_, map, flatMap}
 use lib.ListN.{replicate, set}
-use Rattle.record.specs.Tree.{Row, Encoding, encoding, forest, sequences, absent}
+use Rattle.record.specs.Tree.{Row, Forest, Encoding, encoding, forest, sequences, absent}
 use Rattle.lookup_ranges.specs.Ranges.{tokenToSequence, getSequenceIds}
 use Rattle.record.specs.declared.Bounds.{Bounds, Bounds as Stretch}
 use Rattle.lookup_words.specs.Words.{wordToTokens}
@@ -22,8 +23,8 @@ use Rattle.cut_lengths.specs.declared.Second.the-variants.{Rows}
 use Rattle.cut_lengths.specs.declared.Kept.{Kept}
 use Rattle.cut_windows.specs.Made.{plain}
 use Rattle.truncate.specs.Truncate.{cutOutcome}
-use Rattle.truncate_write.specs.Truncated.{truncated}
 use Rattle.join_trees.specs.Join.{join}
+use Rattle.listing_text.specs.Text.{bytes}
 use Rattle.template_text.specs.Template.{readTemplate, readingNumbers}
 use Rattle.join_trees.specs.Samples.{sampleS, sampleP, sampleQ, spelledWindows}
 
@@ -75,14 +76,18 @@ spelled E = flatMap (λ (w : List ℕ). 0 ∷ w) (spelledWindows E)
 abbrev pub stretches : List Stretch → List ℕ
 stretches bs = flatMap (λ (b : Stretch). b .start ∷ b .end ∷ []) bs
 
--- a cut's refusal, 0 where there is none, and the nodes of the encoding that it makes
-abbrev pub nodesOrRefusal : Outcome → List ℕ
-nodesOrRefusal (refused k) = numberOf k ∷ []
-nodesOrRefusal (done f) = 0 ∷ nodesIn f ∷ []
+-- the number of a refusal; or 0, there being none, and what `said` tells of the encodings that were made
+abbrev pub outcomeNumbers : (Forest → List ℕ) → Outcome → List ℕ
+outcomeNumbers said (refused k) = numberOf k ∷ []
+outcomeNumbers said (done f) = 0 ∷ said f
 
--- all numbers of an encoding
-abbrev pub flat : Encoding → List ℕ
-flat E = flatNodes (forest (E ∷ [])) ++ flatRows (forest (E ∷ []))
+-- how many nodes the encodings have
+abbrev pub nodeCount : Forest → List ℕ
+nodeCount f = nodesIn f ∷ []
+
+-- all numbers of the encodings
+abbrev pub flat : Forest → List ℕ
+flat f = flatNodes f ++ flatRows f
 
 -- the rows kept of a pair
 abbrev pub keptNumbers : Kept → List ℕ
@@ -118,6 +123,10 @@ joinSamples growing =
 abbrev room : ℕ → List ℕ
 room width = replicate (width * 80) 0
 
+-- the ten rows cut from the right
+abbrev pub cutTen : ℕ → ℕ → Outcome
+cutTen max stride = cutOutcome (room nodeWidth) (room rowWidth) max stride Right ten
+
 abbrev pub cutSamples : List Sample
 cutSamples =
     -- "10 rows, max 4, stride 1: right as above; left 6–10, 3–7, 0–4."
@@ -126,12 +135,12 @@ cutSamples =
     -- "9 rows, max 4, stride 1, left: 5–9, 2–6, 0–3."
     ∷ sample (stretches (windowsOf 9 4 1 Left)) (5 ∷ 9 ∷ 2 ∷ 6 ∷ 0 ∷ 3 ∷ [])
     -- "10 rows, max 4: stride 4 gives 3; stride 3 gives seven windows with the kept one."
-    ∷ sample (nodesOrRefusal (cutOutcome (room nodeWidth) (room rowWidth) 4 4 Right ten)) (3 ∷ [])
-    ∷ sample (nodesOrRefusal (cutOutcome (room nodeWidth) (room rowWidth) 4 3 Right ten)) (0 ∷ 7 ∷ [])
+    ∷ sample (outcomeNumbers nodeCount (cutTen 4 4)) (3 ∷ [])
+    ∷ sample (outcomeNumbers nodeCount (cutTen 4 3)) (0 ∷ 7 ∷ [])
     -- "Max 0, stride 9: one window with all rows."
-    ∷ sample (flat (truncated 0 9 Right ten)) (flat (plain [] (ten ∷ [])))
+    ∷ sample (outcomeNumbers flat (cutTen 0 9)) (0 ∷ flat (forest (plain [] (ten ∷ []) ∷ [])))
     -- "10 rows, max 10, stride 50: unchanged."
-    ∷ sample (flat (truncated 10 50 Right ten)) (flat ten)
+    ∷ sample (outcomeNumbers flat (cutTen 10 50)) (0 ∷ flat (forest (ten ∷ [])))
     ∷ []
 
 abbrev pub pairSamples : List Sample
@@ -143,19 +152,19 @@ pairSamples =
     ∷ []
 
 -- the refusal's number or 0, then kind, type, id start and id length of each piece
-abbrev pub reading : List ℕ → List ℕ
-reading text = readingNumbers (readTemplate text)
+abbrev pub reading : String → List ℕ
+reading text = readingNumbers (readTemplate (bytes text))
 
 abbrev pub templateSamples : List Sample
 templateSamples =
     -- "`$+7` A type 7"
-    sample (reading (36 ∷ 43 ∷ 55 ∷ [])) (0 ∷ 0 ∷ 7 ∷ 0 ∷ 0 ∷ [])
+    sample (reading "$+7") (0 ∷ 0 ∷ 7 ∷ 0 ∷ 0 ∷ [])
     -- "`:1` empty special id, type 1"
-    ∷ sample (reading (58 ∷ 49 ∷ [])) (0 ∷ 2 ∷ 1 ∷ 0 ∷ 0 ∷ [])
+    ∷ sample (reading ":1") (0 ∷ 2 ∷ 1 ∷ 0 ∷ 0 ∷ [])
     -- "`$C`, `a:b:1`, `$4294967296` give 7"
-    ∷ sample (reading (36 ∷ 67 ∷ [])) (7 ∷ [])
-    ∷ sample (reading (97 ∷ 58 ∷ 98 ∷ 58 ∷ 49 ∷ [])) (7 ∷ [])
-    ∷ sample (reading (36 ∷ 52 ∷ 50 ∷ 57 ∷ 52 ∷ 57 ∷ 54 ∷ 55 ∷ 50 ∷ 57 ∷ 54 ∷ [])) (7 ∷ [])
+    ∷ sample (reading "$C") (7 ∷ [])
+    ∷ sample (reading "a:b:1") (7 ∷ [])
+    ∷ sample (reading "$4294967296") (7 ∷ [])
     ∷ []
 
 abbrev pub samples : List Sample
