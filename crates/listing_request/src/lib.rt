@@ -1,14 +1,11 @@
 // What a line of the window lister asks (document 01).
 ghost use mathlib.Core.Path.{_≡_};
-ghost use Prim.Native.Nat.{_+_, _<_};
 ghost use Rattle.listing_request.specs.Asked.{fieldAt, within, askedOf};
 use cut_plan::Direction;
 use lines::Number;
+use record::Encoding;
 
 const SPACE: u8 = b' ';
-
-// The rows of an encoding are at most these.
-const MOST_ROWS: u32 = 65536;
 
 // A cut whose windows are to be listed.
 pub struct Request {
@@ -86,7 +83,7 @@ fn field(line: &[u8], at: usize) -> Number
 fn few(rows: u32, max: u32, stride: u32, direction: Direction) -> Asked
     ensures { λ r. ⌜ r ≡ within rows max stride direction ⌝ }
 {
-    if rows <= MOST_ROWS {
+    if rows as usize <= Encoding::MOST_ROWS {
         return Asked::Cut(Request {
             rows,
             max,
