@@ -1,7 +1,7 @@
 // The lines with which the window lister answers (document 01).
 ghost use mathlib.Core.List.{[], _∷_};
 ghost use mathlib.Core.Path.{_≡_};
-ghost use Prim.Native.Nat.{_+_, _≤_, _<_};
+ghost use Prim.Native.Nat.{_≤_};
 ghost use lib.ListN.{length, getD};
 ghost use Rattle.cut_plan.specs.Cut.{bounds};
 ghost use Rattle.listing_text.specs.Contracts.{Wrote};

@@ -10,9 +10,8 @@ use mathlib.Core.Option.{Option, none as nothing, some, bind, Option·map, Optio
 use mathlib.Core.List.{List, [], _∷_}
 use lib.Dec.{leb, ltb, eqb}
 use lib.ListN.{length, getD, getElem?}
-use borrow.Author.Tests.{leb-true, ltb-true, le-leb, lt-ltb, eqb-true}
-use Rattle.record.specs.Tree.{Row, Encoding, Range, absent}
 use borrow.Author.Tests.{leb-true, ltb-true, le-leb, lt-ltb, eqb-true, eqb-false, eq-eqb, ne-eqb}
+use Rattle.record.specs.Tree.{Row, Encoding, Range, absent}
 use Rattle.record.specs.Standing.{One}
 use Rattle.lookup_ranges.specs.Ranges.{sequenceRange, tokenToSequence, present, holdsRow}
 use Rattle.record.specs.declared.Bounds.{Bounds}
@@ -22,8 +21,6 @@ use Rattle.lookup_chars.specs.Chars.{charToToken, ofToken, tokenToChars,
 use Rattle.lookup_words.specs.Words.{wordToTokens}
 use Rattle.lookup_search.proofs.Stored.{noRow}
 use Rattle.lookup_search.proofs.Parts.{there, getD-there, inside-there}
-use mathlib.Core.List.{[], _∷_}
-use borrow.Author.Tests.{eqb-false, eq-eqb, ne-eqb}
 use Rattle.lookup_words.proofs.WordLaws.{words-found}
 use Rattle.lookup_chars.proofs.CharLaws.{char-found, char-is}
 use Rattle.lookup_search.proofs.InRange.{theRow}

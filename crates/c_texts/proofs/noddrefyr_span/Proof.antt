@@ -1,11 +1,17 @@
 -- `noddrefyr_span` hands on what `lookup_texts::span` answers. Assumes nothing.
 use mathlib.Core.Path.{refl}
+use Prim.Native.Nat.{ℕ}
+use mathlib.Core.List.{List}
 use denote.Ref.{now}
 use borrow.Author.Needs.{needs}
 use Rattle.c_texts.specs.Answers.{spanCrossed}
 use Rattle.c_crossing.proofs.Crossing.{crosses}
 use Rattle.c_texts.proofs.noddrefyr_span.Statement.{statement}
 use Rattle.c_texts.proofs.noddrefyr_span.Tie as tie
+
+-- what the lent numbers were
+abbrev was : tie.After-span → List ℕ
+was s = now (s .before .before .before .args .answer)
 
 span-requires : tie.Need-span-requires
 span-requires c κs = search needs
@@ -25,17 +31,17 @@ enum-known-found-2 c = search needs
 returns : tie.Need-returns
 returns c =
     let s = c .before .before .before .before in
-    crosses (spanCrossed (now (s .before .before .before .args .answer))) (s .span .ensures) (c .before .before .found .given .1) (c .number .ensures) refl
+    crosses (spanCrossed (was s)) (s .span .ensures) (c .before .before .found .given .1) (c .number .ensures) refl
 
 returns-2 : tie.Need-returns-2
 returns-2 c =
     let s = c .before .before .before in
-    crosses (spanCrossed (now (s .before .before .before .args .answer))) (s .span .ensures) (c .before .enum-told .given .1) (refl) refl
+    crosses (spanCrossed (was s)) (s .span .ensures) (c .before .enum-told .given .1) refl refl
 
 returns-3 : tie.Need-returns-3
 returns-3 c =
     let s = c .before .before .before .before in
-    crosses (spanCrossed (now (s .before .before .before .args .answer))) (s .span .ensures) (c .before .before .found2 .given .1) (refl) refl
+    crosses (spanCrossed (was s)) (s .span .ensures) (c .before .before .found2 .given .1) refl refl
 
 pub noddrefyr-span-spec : {M : Type 1} → statement M
 noddrefyr-span-spec = tie.close (tie.spec span-requires enum-known-found number-requires enum-told enum-known-found-2 returns returns-2 returns-3)

@@ -1,11 +1,17 @@
 -- `noddrefyr_text` hands on what `lookup_texts::text` answers. Assumes nothing.
 use mathlib.Core.Path.{refl}
+use Prim.Native.Nat.{ℕ}
+use mathlib.Core.List.{List}
 use denote.Ref.{now}
 use borrow.Author.Needs.{needs}
 use Rattle.c_texts.specs.Answers.{textCrossed}
 use Rattle.c_crossing.proofs.Crossing.{crosses}
 use Rattle.c_texts.proofs.noddrefyr_text.Statement.{statement}
 use Rattle.c_texts.proofs.noddrefyr_text.Tie as tie
+
+-- what the lent numbers were
+abbrev was : tie.After-text → List ℕ
+was s = now (s .before .before .before .before .before .args .answer)
 
 text-requires : tie.Need-text-requires
 text-requires c κs = search needs
@@ -25,17 +31,17 @@ enum-known-found-2 c = search needs
 returns : tie.Need-returns
 returns c =
     let s = c .before .before .before .before in
-    crosses (textCrossed (now (s .before .before .before .before .before .args .answer))) (s .text .ensures) (c .before .before .found .given .1) (c .number .ensures) refl
+    crosses (textCrossed (was s)) (s .text .ensures) (c .before .before .found .given .1) (c .number .ensures) refl
 
 returns-2 : tie.Need-returns-2
 returns-2 c =
     let s = c .before .before .before in
-    crosses (textCrossed (now (s .before .before .before .before .before .args .answer))) (s .text .ensures) (c .before .enum-told .given .1) (refl) refl
+    crosses (textCrossed (was s)) (s .text .ensures) (c .before .enum-told .given .1) refl refl
 
 returns-3 : tie.Need-returns-3
 returns-3 c =
     let s = c .before .before .before .before in
-    crosses (textCrossed (now (s .before .before .before .before .before .args .answer))) (s .text .ensures) (c .before .before .found2 .given .1) (refl) refl
+    crosses (textCrossed (was s)) (s .text .ensures) (c .before .before .found2 .given .1) refl refl
 
 pub noddrefyr-text-spec : {M : Type 1} → statement M
 noddrefyr-text-spec = tie.close (tie.spec text-requires enum-known-found number-requires enum-told enum-known-found-2 returns returns-2 returns-3)

@@ -20,7 +20,7 @@ same-length : tie.Need-same-length
 same-length c = search needs
 
 returns : tie.Need-returns
-returns c = wrote-as (count-fields (c .before .before .before .before .before .before .before .before .before .before .args .n)) (wrote-then (c .before .before .before .before .before .before .write-text .ensures) (c .before .before .write-field .ensures))
+returns c = let f = c .before .before in let w = f .before .before .before .before in wrote-as (count-fields (w .before .before .before .before .args .n)) (wrote-then (w .write-text .ensures) (f .write-field .ensures))
 
 pub write-count-spec : {M : Type 1} → statement M
 write-count-spec =

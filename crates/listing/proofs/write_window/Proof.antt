@@ -7,20 +7,26 @@ use Rattle.listing.proofs.Lines.{length-field, window-fields}
 use Rattle.listing.proofs.write_window.Statement.{statement}
 use Rattle.listing.proofs.write_window.Tie as tie
 
+abbrev start : tie.After-write-field → tie.Start
+start c = c .before .before .before
+
+abbrev first : tie.After-write-field2 → tie.After-write-field
+first c = c .before .before .before .before
+
 write-field-requires : tie.Need-write-field-requires
 write-field-requires c κs = let s = c .before .before in omega (arith, s .pre, number-few (s .args .number))
 
 write-field-requires-2 : tie.Need-write-field-requires-2
-write-field-requires-2 c κs = let w = c .before .before .before in let s = w .before .before .before in omega (arith, s .pre, w .write-field .ensures .ends, wrote-long (w .write-field .ensures), length-field (s .args .number) 32, number-few (s .args .number), number-few (s .args .window .start))
+write-field-requires-2 c κs = let w = c .before .before .before in let s = start w in omega (arith, s .pre, w .write-field .ensures .ends, wrote-long (w .write-field .ensures), length-field (s .args .number) 32, number-few (s .args .number), number-few (s .args .window .start))
 
 write-field-requires-3 : tie.Need-write-field-requires-3
-write-field-requires-3 c κs = let x = c .before .before .before in let w = x .before .before .before .before in let s = w .before .before .before in omega (arith, s .pre, w .write-field .ensures .ends, wrote-long (w .write-field .ensures), x .write-field2 .ensures .ends, wrote-long (x .write-field2 .ensures), length-field (s .args .number) 32, length-field (s .args .window .start) 32, number-few (s .args .number), number-few (s .args .window .start), number-few (s .args .window .end))
+write-field-requires-3 c κs = let x = c .before .before .before in let w = first x in let s = start w in omega (arith, s .pre, w .write-field .ensures .ends, wrote-long (w .write-field .ensures), x .write-field2 .ensures .ends, wrote-long (x .write-field2 .ensures), length-field (s .args .number) 32, length-field (s .args .window .start) 32, number-few (s .args .number), number-few (s .args .window .start), number-few (s .args .window .end))
 
 same-length : tie.Need-same-length
 same-length c = search needs
 
 returns : tie.Need-returns
-returns c = wrote-as (window-fields (c .before .before .before .before .before .before .before .before .before .before .before .before .before .args .number) (c .before .before .before .before .before .before .before .before .before .before .before .before .before .args .window)) (wrote-then (c .before .before .before .before .before .before .before .before .before .before .write-field .ensures) (wrote-then (c .before .before .before .before .before .before .write-field2 .ensures) (c .before .before .write-field3 .ensures)))
+returns c = let y = c .before .before in let x = y .before .before .before .before in let w = first x in let v = start w .args in wrote-as (window-fields (v .number) (v .window)) (wrote-then (w .write-field .ensures) (wrote-then (x .write-field2 .ensures) (y .write-field3 .ensures)))
 
 pub write-window-spec : {M : Type 1} → statement M
 write-window-spec =

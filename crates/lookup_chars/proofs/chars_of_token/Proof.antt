@@ -1,6 +1,13 @@
 -- `chars_of_token` reads the offsets of a row that has a sequence. Assumes nothing.
-use mathlib.Core.Path.{sym, ap, _∙_}
+use mathlib.Core.Path.{_≡_, sym, ap, _∙_}
+use Prim.Native.Nat.{_+_, _*_, _≤_}
 use native.Mathlib.Omega.{arith}
+use lib.ListN.{length}
+use denote.Ref.{now}
+use Rattle.record.specs.Flat.{rowWidth}
+use Rattle.lookup_ranges.specs.Ranges.{tokenToSequence}
+use Rattle.lookup_ranges.specs.declared.Sequence.{Sequence}
+use Rattle.lookup_search.specs.Contracts.{OfOne}
 use Rattle.lookup_ranges.proofs.Top.{top-there}
 use Rattle.lookup_chars.specs.Chars.{tokenToChars}
 use Rattle.lookup_chars.specs.Answers.{tokenCharsAnswer}
@@ -9,6 +16,16 @@ use Rattle.lookup_chars.proofs.CharsStored.{row-inside, of-past, of-unp
 use borrow.Author.Needs.{needs}
 use Rattle.lookup_chars.proofs.chars_of_token.Statement.{statement}
 use Rattle.lookup_chars.proofs.chars_of_token.Tie as tie
+
+-- the row is there
+inside : (c : tie.Else1) → let v = c .before .before .before .before .args in v .token .0 * rowWidth + rowWidth ≤ length (now (v .rows))
+inside c = row-inside _ _ _ (c .before .before .before .before .pre) (c .if1 .left)
+
+-- its sequence, by the case of the answer
+placed : (c : tie.After-sequence-of) {a : Sequence} → c .sequence-of .result ≡ a →
+    let v = c .before .before .before .before .before .args in
+    OfOne (now (v .nodes)) (now (v .rows)) (λ E. tokenToSequence E (v .token .0) ≡ sequenceBack a)
+placed c e = λ E one. sequence-back _ _ (c .sequence-of .ensures _ E one) ∙ ap sequenceBack e
 
 shared-slice-read-if1 : tie.Need-shared-slice-read-if1
 shared-slice-read-if1 c = omega (arith, top-there _ _ (c .before .before .before .pre))
@@ -29,8 +46,7 @@ enum-told c = search needs
 returns-2 : tie.Need-returns-2
 unfolding tokenToChars
 returns-2 c = λ E one.
-    let after = c .before .before in
-    ap tokenCharsAnswer (sym (of-unplaced one _ _ (sequence-back _ _ (after .sequence-of .ensures _ E one) ∙ ap sequenceBack (c .enum-told .given .1))))
+    ap tokenCharsAnswer (sym (of-unplaced one _ _ (placed (c .before .before) (c .enum-told .given .1) E one)))
 
 cast-at : tie.Need-cast-at
 cast-at c = search needs
@@ -45,7 +61,7 @@ mul-t12 : tie.Need-mul-t12
 mul-t12 c = search needs
 
 shared-slice-read-t9 : tie.Need-shared-slice-read-t9
-shared-slice-read-t9 c = let else1 = c .before .before .before .before .before in omega (arith, row-inside _ _ _ (else1 .before .before .before .before .pre) (else1 .if1 .left))
+shared-slice-read-t9 c = omega (arith, inside (c .before .before .before .before .before))
 
 add-t15 : tie.Need-add-t15
 add-t15 c = search needs
@@ -54,12 +70,13 @@ mul-t16 : tie.Need-mul-t16
 mul-t16 c = search needs
 
 shared-slice-read-t18 : tie.Need-shared-slice-read-t18
-shared-slice-read-t18 c = let else1 = c .before .before .before .before .before .before in omega (arith, row-inside _ _ _ (else1 .before .before .before .before .pre) (else1 .if1 .left))
+shared-slice-read-t18 c = omega (arith, inside (c .before .before .before .before .before .before))
 
 returns-3 : tie.Need-returns-3
 returns-3 c = λ E one.
-    let after = c .before .before .before .before .before in
-    ap tokenCharsAnswer (sym (chars-stored one _ (after .before .if1 .left) _ (sequence-back _ _ (after .sequence-of .ensures _ E one) ∙ ap sequenceBack (c .before .before .before .found .given .1))))
+    let told = c .before .before .before in
+    let after = told .before .before in
+    ap tokenCharsAnswer (sym (chars-stored one _ (after .before .if1 .left) _ (placed after (told .found .given .1) E one)))
 
 pub chars-of-token-spec : {M : Type 1} → statement M
 chars-of-token-spec =

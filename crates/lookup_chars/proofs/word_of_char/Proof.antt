@@ -1,5 +1,8 @@
 -- `word_of_char` gives the word of the row that holds the place. Assumes nothing.
-use mathlib.Core.Path.{sym, ap, _∙_}
+use mathlib.Core.Path.{_≡_, sym, ap, _∙_}
+use denote.Ref.{now}
+use Rattle.lookup_search.specs.Contracts.{OfOne}
+use Rattle.lookup_search.specs.declared.TokenAnswer.{TokenAnswer}
 use Rattle.lookup_chars.specs.Chars.{charToToken, tokenToWord}
 use Rattle.lookup_chars.specs.Answers.{wordAnswer}
 use Rattle.lookup_chars.specs.Contracts.{wordAlone}
@@ -8,6 +11,12 @@ use Rattle.lookup_chars.proofs.CharsStored.{char-word-nothing, char-wor
 use borrow.Author.Needs.{needs}
 use Rattle.lookup_chars.proofs.word_of_char.Statement.{statement}
 use Rattle.lookup_chars.proofs.word_of_char.Tie as tie
+
+-- the row that holds the place, by the case of the answer
+held : (c : tie.After-token-of-char) {a : TokenAnswer} → c .token-of-char .result ≡ a →
+    let v = c .before .before .before .args in
+    OfOne (now (v .nodes)) (now (v .rows)) (λ E. charToToken E (v .place .0) (v .sequence-id) ≡ tokenBack a)
+held c e = λ E one. token-back _ _ (c .token-of-char .ensures E one) ∙ ap tokenBack e
 
 token-of-char-requires : tie.Need-token-of-char-requires
 token-of-char-requires c κs = search needs
@@ -34,14 +43,13 @@ returns c = λ E one.
 
 returns-2 : tie.Need-returns-2
 returns-2 c = λ E one.
-    let after = c .before .before in
-    ap wordAnswer (sym (char-word-nothing E _ _ (token-back _ _ (after .token-of-char .ensures E one) ∙ ap tokenBack (c .enum-told .given .1))))
+    ap wordAnswer (sym (char-word-nothing E _ _ (held (c .before .before) (c .enum-told .given .1) E one)))
 
 returns-3 : tie.Need-returns-3
 returns-3 c = λ E one.
-    let after = c .before .before .before .before .before in
-    let row = token-back _ _ (after .token-of-char .ensures E one) ∙ ap tokenBack (c .before .before .before .holding2 .given .1) in
-    c .word-alone .ensures ∙ ap wordAlone (c .before .word-of-token .ensures E one) ∙ word-alone (tokenToWord E _) ∙ ap wordAnswer (sym (char-word-found E _ _ _ row))
+    let told = c .before .before .before in
+    c .word-alone .ensures ∙ ap wordAlone (c .before .word-of-token .ensures E one) ∙ word-alone (tokenToWord E _)
+    ∙ ap wordAnswer (sym (char-word-found E _ _ _ (held (told .before .before) (told .holding2 .given .1) E one)))
 
 pub word-of-char-spec : {M : Type 1} → statement M
 word-of-char-spec =

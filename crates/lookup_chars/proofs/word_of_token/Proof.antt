@@ -1,6 +1,13 @@
 -- `word_of_token` reads the word of a row that has a word and a sequence. Assumes nothing.
-use mathlib.Core.Path.{sym, ap, _∙_}
+use mathlib.Core.Path.{_≡_, sym, ap, _∙_}
+use Prim.Native.Nat.{_+_, _*_, _≤_}
 use native.Mathlib.Omega.{arith}
+use lib.ListN.{length}
+use denote.Ref.{now}
+use Rattle.record.specs.Flat.{rowWidth}
+use Rattle.lookup_ranges.specs.Ranges.{tokenToSequence}
+use Rattle.lookup_ranges.specs.declared.Sequence.{Sequence}
+use Rattle.lookup_search.specs.Contracts.{OfOne}
 use Rattle.lookup_ranges.proofs.Top.{top-there}
 use Rattle.lookup_chars.specs.Chars.{tokenToWord}
 use Rattle.lookup_chars.specs.Answers.{tokenWordAnswer}
@@ -9,6 +16,16 @@ use Rattle.lookup_chars.proofs.CharsStored.{row-inside, of-past, of-unp
 use borrow.Author.Needs.{needs}
 use Rattle.lookup_chars.proofs.word_of_token.Statement.{statement}
 use Rattle.lookup_chars.proofs.word_of_token.Tie as tie
+
+-- the row is there
+inside : (c : tie.Else1) → let v = c .before .before .before .before .args in v .token .0 * rowWidth + rowWidth ≤ length (now (v .rows))
+inside c = row-inside _ _ _ (c .before .before .before .before .pre) (c .if1 .left)
+
+-- its sequence, by the case of the answer
+placed : (c : tie.After-sequence-of) {a : Sequence} → c .sequence-of .result ≡ a →
+    let v = c .before .before .before .before .before .before .before .args in
+    OfOne (now (v .nodes)) (now (v .rows)) (λ E. tokenToSequence E (v .token .0) ≡ sequenceBack a)
+placed c e = λ E one. sequence-back _ _ (c .sequence-of .ensures _ E one) ∙ ap sequenceBack e
 
 shared-slice-read-if1 : tie.Need-shared-slice-read-if1
 shared-slice-read-if1 c = omega (arith, top-there _ _ (c .before .before .before .pre))
@@ -30,7 +47,7 @@ mul-if2 : tie.Need-mul-if2
 mul-if2 c = search needs
 
 shared-slice-read-if2 : tie.Need-shared-slice-read-if2
-shared-slice-read-if2 c = let else1 = c .before in omega (arith, row-inside _ _ _ (else1 .before .before .before .before .pre) (else1 .if1 .left))
+shared-slice-read-if2 c = omega (arith, inside (c .before))
 
 returns-2 : tie.Need-returns-2
 returns-2 c = λ E one. ap tokenWordAnswer (sym (word-unmarked one _ (c .before .before .if1 .left) (c .if2 .taken)))
@@ -47,8 +64,7 @@ enum-told c = search needs
 returns-3 : tie.Need-returns-3
 unfolding tokenToWord
 returns-3 c = λ E one.
-    let after = c .before .before in
-    ap tokenWordAnswer (sym (of-unplaced one _ _ (sequence-back _ _ (after .sequence-of .ensures _ E one) ∙ ap sequenceBack (c .enum-told .given .1))))
+    ap tokenWordAnswer (sym (of-unplaced one _ _ (placed (c .before .before) (c .enum-told .given .1) E one)))
 
 add-t11 : tie.Need-add-t11
 add-t11 c = search needs
@@ -57,12 +73,13 @@ mul-t12 : tie.Need-mul-t12
 mul-t12 c = search needs
 
 shared-slice-read-t9 : tie.Need-shared-slice-read-t9
-shared-slice-read-t9 c = let else1 = c .before .before .before .before .before .before .before in omega (arith, row-inside _ _ _ (else1 .before .before .before .before .pre) (else1 .if1 .left))
+shared-slice-read-t9 c = omega (arith, inside (c .before .before .before .before .before .before .before))
 
 returns-4 : tie.Need-returns-4
 returns-4 c = λ E one.
-    let after = c .before .before .before .before in
-    ap tokenWordAnswer (sym (word-stored one _ (after .before .before .before .if1 .left) _ (after .before .if2 .left) (sequence-back _ _ (after .sequence-of .ensures _ E one) ∙ ap sequenceBack (c .before .before .found .given .1))))
+    let told = c .before .before in
+    let after = told .before .before in
+    ap tokenWordAnswer (sym (word-stored one _ (after .before .before .before .if1 .left) _ (after .before .if2 .left) (placed after (told .found .given .1) E one)))
 
 pub word-of-token-spec : {M : Type 1} → statement M
 word-of-token-spec =
