@@ -13,7 +13,8 @@ use Rattle.listing_request.specs.declared.Request.{Request}
 use Rattle.listing_request.specs.declared.Asked.{Asked}
 use Rattle.listing_request.specs.declared.Asked.the-variants.{BadLine, Cut}
 
--- "Max 0 with rows prints two windows, the first `0 0 0`": the other is the whole former encoding
+-- the windows that are listed, by the decision on the cut. "Max 0 with rows prints two windows, the first `0 0 0`": the
+-- other is the whole former encoding
 abbrev pub windowsBy : Decision → Request → List Bounds
 windowsBy Whole q = []
 windowsBy Emptied q = bounds 0 0 ∷ bounds 0 (q .rows) ∷ []
@@ -23,16 +24,18 @@ windowsBy (Windows n) q = windowsOf (q .rows) (q .max) (q .stride) (q .direction
 unfoldable pub windowsListed : Request → List Bounds
 windowsListed q = windowsBy (decisionOf (q .rows) (q .max) (q .stride)) q
 
--- "`windows n`, ..; `whole` if nothing is cut, `refused 3`, or `bad line`"
+-- "`windows n`"
 unfoldable pub countLine : ℕ → List ℕ
 countLine n = bytes "windows " ++ (numberText n ++ bytes "\n")
 
+-- the first line by the decision on the cut, of which n windows are listed: "`whole` if nothing is cut, `refused 3`"
 abbrev pub firstBy : Decision → ℕ → List ℕ
 firstBy Whole n = bytes "whole\n"
 firstBy Emptied n = countLine n
 firstBy StrideRefused n = bytes "refused 3\n"
 firstBy (Windows k) n = countLine n
 
+-- "or `bad line` for any other line"
 unfoldable pub firstLine : Asked → List ℕ
 firstLine BadLine = bytes "bad line\n"
 firstLine (Cut q) = firstBy (decisionOf (q .rows) (q .max) (q .stride)) (length (windowsListed q))

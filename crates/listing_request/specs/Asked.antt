@@ -30,9 +30,11 @@ abbrev pub spaced : List ℕ → Number → Number
 spaced line Bad = Bad
 spaced line (Read value next) = cond (ltb next (length line) && eqb (getD line next 0) spaceByte) (Read value (next + 1)) Bad
 
+-- the field that begins at a place
 abbrev pub fieldAt : List ℕ → ℕ → Number
 fieldAt line at = spaced line (numberAt line at)
 
+-- what k says of a number that was read and the place after it; a line without one is bad
 abbrev pub withNumber : Number → (ℕ → ℕ → Asked) → Asked
 withNumber Bad k = BadLine
 withNumber (Read value next) k = k value next
@@ -46,7 +48,7 @@ withLetter (byte ∷ other ∷ bytes) k = BadLine
 abbrev pub request : ℕ → ℕ → ℕ → Direction → Request
 request rows max stride d = record { rows = rows; max = max; stride = stride; direction = d }
 
--- "rows at most 65,536"
+-- "rows at most 65,536": the record's limit
 abbrev pub within : ℕ → ℕ → ℕ → Direction → Asked
 within rows max stride d = cond (leb rows mostRows) (Cut (request rows max stride d)) BadLine
 

@@ -24,16 +24,17 @@ charToToken E place id = firstFrom (holdsPlace place) (sequenceRange E id .start
 unfoldable pub ofToken : {A : Type 0} → Encoding → ℕ → (Row → Option A) → Option (ℕ × A)
 ofToken E row k = bind (tokenToSequence E row) (λ sequence. bind (getElem? (E .rows) row) (λ r. Option·map (λ v. (sequence, v)) (k r)))
 
+-- its offsets
 unfoldable pub tokenToChars : Encoding → ℕ → Option (ℕ × Bounds)
 tokenToChars E row = ofToken E row (λ r. some (record { start = r .offset-start; end = r .offset-end }))
 
--- the word of a row: none without a mark
+-- "word mark (0 none, 1 present)"
 abbrev pub wordOf : Row → Option ℕ
 wordOf r = cond (eqb (r .word-mark) 1) (some (r .word)) nothing
 
 unfoldable pub tokenToWord : Encoding → ℕ → Option (ℕ × ℕ)
 tokenToWord E row = ofToken E row wordOf
 
--- "char_to_word needs both steps"
+-- "char_to_word needs both steps": the row that holds the place, and that row's word
 unfoldable pub charToWord : Encoding → ℕ → ℕ → Option ℕ
 charToWord E place id = bind (charToToken E place id) (λ row. Option·map (λ found. found .1) (tokenToWord E row))

@@ -20,17 +20,17 @@ inRange E id = part (sequenceRange E id .start) (sequenceRange E id .end) (E .ro
 abbrev pub aboveWord : ℕ → Row → Bool
 aboveWord word r = eqb (r .word-mark) 1 && ltb word (r .word)
 
+-- the row has the word
 abbrev pub isWord : ℕ → Row → Bool
 isWord word r = eqb (r .word-mark) 1 && eqb (r .word) word
 
--- the bounds of what begins with the first and ends with the last
+-- "first match and last match plus one": nothing without a match
 abbrev pub fromTo : Option ℕ → Option ℕ → Option Bounds
 fromTo nothing last = nothing
 fromTo (some first) nothing = nothing
 fromTo (some first) (some last) = some (record { start = first; end = last + 1 })
 
--- "stops at the first word above the one sought, and gives first match and last match plus one", in rows of which the
--- first has the number n
+-- the rows of the word up to "the first word above the one sought", in rows of which the first has the number n
 unfoldable pub wordRows : ℕ → ℕ → List Row → Option Bounds
 wordRows word n rows = fromTo (firstFrom (isWord word) n (until (aboveWord word) rows)) (lastFrom (isWord word) n (until (aboveWord word) rows))
 

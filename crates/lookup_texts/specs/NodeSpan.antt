@@ -10,6 +10,7 @@ use Rattle.lookup_texts.specs.Numbered.{numbered}
 use Rattle.lookup_texts.specs.declared.SpanAnswer.{SpanAnswer}
 use Rattle.lookup_texts.specs.declared.SpanAnswer.the-variants.{Refused, Nothing, Found}
 
+-- the last of rows that begin with r
 abbrev pub lastOf : Row → List Row → Row
 lastOf r [] = r
 lastOf r (s ∷ rs) = lastOf s rs
@@ -19,6 +20,6 @@ unfoldable pub spanOf : List Row → SpanAnswer
 spanOf [] = Nothing
 spanOf (r ∷ rs) = Found (record { 0 = r .offset-start }) (record { 0 = lastOf r rs .offset-end })
 
--- "Lookups, span: 1"; "or past the last node", numbered "through the whole batch"
+-- "Lookups, span: 1. None is a normal result."; none also "past the last node", numbered "through the whole batch"
 unfoldable pub spanAnswer : Reading → ℕ → SpanAnswer
 spanAnswer batch node = ofAny (Refused MalformedRecord) (λ f. numbered Nothing (λ E. spanOf (E .rows)) (allEncodings f) node) batch

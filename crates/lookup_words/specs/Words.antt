@@ -8,7 +8,7 @@ use Rattle.lookup_ranges.specs.Ranges.{sequenceRange}
 use Rattle.record.specs.declared.Bounds.{Bounds}
 use Rattle.lookup_search.specs.Searches.{inRange, wordRows}
 
--- "word_to_tokens looks inside the range"
+-- "word_to_tokens looks inside the range": its rows, numbered from the first row of the range on
 unfoldable pub wordToTokens : Encoding → ℕ → ℕ → Option Bounds
 wordToTokens E word id = wordRows word (sequenceRange E id .start) (inRange E id)
 
