@@ -15,6 +15,7 @@ use Rattle.listing_text.specs.Text.{bytes, numberText}
 use Rattle.listing.specs.Answer.{countLine, windowLine, windowLines, windowsListed}
 use Rattle.listing.specs.Contracts.{longest, Lists}
 use Rattle.listing_text.specs.Contracts.{Wrote}
+use Rattle.listing_request.specs.Asked.{spaceByte}
 use Rattle.listing_request.specs.declared.Request.{Request}
 use Rattle.listing.specs.declared.Step.{Step}
 use Rattle.listing_text.proofs.Text.{number-few}
@@ -29,18 +30,22 @@ field n byte = numberText n ++ (byte ∷ [])
 pub length-field : (n byte : ℕ) → length (field n byte) ≡ length (numberText n) + 1
 length-field n byte = length-append (numberText n) (byte ∷ [])
 
+-- the byte that ends a line
+abbrev pub newlineByte : ℕ
+newlineByte = 10
+
 -- the line is three of these
-pub window-fields : (i : ℕ) (b : Bounds) → field i 32 ++ (field (b .start) 32 ++ field (b .end) 10) ≡ windowLine i b
+pub window-fields : (i : ℕ) (b : Bounds) → field i spaceByte ++ (field (b .start) spaceByte ++ field (b .end) newlineByte) ≡ windowLine i b
 unfolding windowLine
 window-fields i b = simp append-assoc
 
-pub count-fields : (n : ℕ) → bytes "windows " ++ field n 10 ≡ countLine n
+pub count-fields : (n : ℕ) → bytes "windows " ++ field n newlineByte ≡ countLine n
 unfolding countLine
 count-fields n = refl
 
 pub line-few : (i : ℕ) (b : Bounds) → length (windowLine i b) ≤ longest
 line-few i b =
-    omega (arith, ap length (window-fields i b), length-append (field i 32) (field (b .start) 32 ++ field (b .end) 10), length-append (field (b .start) 32) (field (b .end) 10), length-field i 32, length-field (b .start) 32, length-field (b .end) 10, number-few i, number-few (b .start), number-few (b .end))
+    omega (arith, ap length (window-fields i b), length-append (field i spaceByte) (field (b .start) spaceByte ++ field (b .end) newlineByte), length-append (field (b .start) spaceByte) (field (b .end) newlineByte), length-field i spaceByte, length-field (b .start) spaceByte, length-field (b .end) newlineByte, number-few i, number-few (b .start), number-few (b .end))
 
 -- ---- Those written so far
 

@@ -1,6 +1,7 @@
 -- `write_window` writes three numbers, each with the byte after it. Assumes nothing.
 use native.Mathlib.Omega.{arith}
 use borrow.Author.Needs.{needs}
+use Rattle.listing_request.specs.Asked.{spaceByte}
 use Rattle.listing_text.proofs.Text.{number-few}
 use Rattle.listing_text.proofs.Wrote.{wrote-then, wrote-as, wrote-long}
 use Rattle.listing.proofs.Lines.{length-field, window-fields}
@@ -17,10 +18,10 @@ write-field-requires : tie.Need-write-field-requires
 write-field-requires c κs = let s = c .before .before in omega (arith, s .pre, number-few (s .args .number))
 
 write-field-requires-2 : tie.Need-write-field-requires-2
-write-field-requires-2 c κs = let w = c .before .before .before in let s = start w in omega (arith, s .pre, w .write-field .ensures .ends, wrote-long (w .write-field .ensures), length-field (s .args .number) 32, number-few (s .args .number), number-few (s .args .window .start))
+write-field-requires-2 c κs = let w = c .before .before .before in let s = start w in omega (arith, s .pre, w .write-field .ensures .ends, wrote-long (w .write-field .ensures), length-field (s .args .number) spaceByte, number-few (s .args .number), number-few (s .args .window .start))
 
 write-field-requires-3 : tie.Need-write-field-requires-3
-write-field-requires-3 c κs = let x = c .before .before .before in let w = first x in let s = start w in omega (arith, s .pre, w .write-field .ensures .ends, wrote-long (w .write-field .ensures), x .write-field2 .ensures .ends, wrote-long (x .write-field2 .ensures), length-field (s .args .number) 32, length-field (s .args .window .start) 32, number-few (s .args .number), number-few (s .args .window .start), number-few (s .args .window .end))
+write-field-requires-3 c κs = let x = c .before .before .before in let w = first x in let s = start w in omega (arith, s .pre, w .write-field .ensures .ends, wrote-long (w .write-field .ensures), x .write-field2 .ensures .ends, wrote-long (x .write-field2 .ensures), length-field (s .args .number) spaceByte, length-field (s .args .window .start) spaceByte, number-few (s .args .number), number-few (s .args .window .start), number-few (s .args .window .end))
 
 same-length : tie.Need-same-length
 same-length c = search needs
