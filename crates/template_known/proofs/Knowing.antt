@@ -3,13 +3,15 @@
 use mathlib.Core.Path.{_≡_, refl, sym, _∙_, ap}
 use mathlib.Core.Bool.{Bool, true, false, _&&_, and-false, and-assoc}
 use mathlib.Core.Option.{none as nothing, some}
-use Prim.Native.Nat.{ℕ, _+_, _-_, _/_, _<_}
+use Prim.Native.Nat.{ℕ, _+_, _-_, _/_, _≤_, _<_}
 use native.Mathlib.Omega.{arith}
 use mathlib.Core.List.{List, [], _∷_, _++_}
 use lib.ListN.{length, getD, take, drop}
+use borrow.Author.Count.{below-more}
 use Rattle.record.specs.Read.{allOk}
 use Rattle.record.specs.declared.Refusal.the-variants.{PartUnreadable, SpecialIdUnknown}
 use Rattle.lookup_ranges.specs.First.{lastFrom}
+use Rattle.lookup_ranges.proofs.First.{nothing-last}
 use Rattle.template_parts.specs.Parts.{parts}
 use Rattle.template_pieces.specs.Piece.{Piece, sequenceA, sequenceB, special}
 use Rattle.template_pieces.proofs.Lies.{kind-special, PieceIs}
@@ -18,6 +20,7 @@ use Rattle.template_text.proofs.Walked.{Walked, walked-start, walked-first}
 use Rattle.template_text.proofs.Answers.{template-holds}
 use Rattle.template_entries.specs.Table.{Special, entryWidth, noEntry, entriesIn, sound, readTable}
 use Rattle.template_find.specs.Contracts.{entryHasId}
+use Rattle.template_entries.proofs.Entries.{entries-number}
 use Rattle.template_entries.proofs.Sound.{table-holds}
 use Rattle.template_find.proofs.Found.{missing, present}
 use Rattle.template_known.specs.Known.{known, knownAnswer}
@@ -41,6 +44,26 @@ allOk-append t (p ∷ ps) qs = rw (allOk-append t ps qs) (sym (and-assoc (t p) (
 
 allOk-more : (t : Piece → Bool) (ps : List Piece) (p : Piece) → allOk t ps ≡ true → t p ≡ true → allOk t (ps ++ (p ∷ [])) ≡ true
 allOk-more t ps p a b = allOk-append t ps (p ∷ []) ∙ rw (a, b)
+
+-- ---- The entries of one id
+
+-- No entry before place i has the id.
+pub record Seeking (entries numbers id : List ℕ) (i : ℕ) : Type 0 where
+  pub inside : i ≤ length entries / entryWidth
+  pub none-before : (j : ℕ) → j < i → entryHasId numbers id (getD (entriesIn entries) j noEntry) ≡ false
+
+module _ {entries numbers id : List ℕ} where
+  pub seek-start : Seeking entries numbers id 0
+  seek-start = record { inside = omega arith; none-before = λ j h. absurd (omega arith) }
+
+  module _ {i : ℕ} (s : Seeking entries numbers id i) where
+    pub seek-on : i < length entries / entryWidth → entryHasId numbers id (getD (entriesIn entries) i noEntry) ≡ false → Seeking entries numbers id (i + 1)
+    seek-on h e = record { inside = omega arith; none-before = below-more _ i (s .none-before) e }
+
+    pub seek-end : i ≡ length entries / entryWidth → lastFrom (entryHasId numbers id) 0 (entriesIn entries) ≡ nothing
+    seek-end h = nothing-last (entryHasId numbers id) noEntry 0 (entriesIn entries) (λ j l. s .none-before j (omega (arith, entries-number entries)))
+
+-- ---- The pieces passed
 
 pub record Knowing (text entries numbers : List ℕ) (at : ℕ) : Type 0 where
   pub passed : List Piece

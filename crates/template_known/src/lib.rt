@@ -24,11 +24,12 @@ pub fn both_known(single: &[u8], pair: &[u8], entries: &[u32], added: &[u8]) -> 
 }
 
 // Whether every special id of a template is in the table. The walk over its parts and the table's entries is left at the
-// first that is not.
+// first that is not. Any entry with the id will do, so the search begins at the first: those that templates name stand there.
 pub fn all_known(text: &[u8], entries: &[u32], added: &[u8]) -> Validity
     requires { ⌜ IdsInside (now entries) (now added) ⌝ }
     ensures { λ r. ⌜ KnownIn (now (text .entry)) (now (entries .entry)) (now (added .entry)) r ⌝ }
 {
+    let count = entries.len() / Entry::WIDTH;
     let mut at: usize = 0;
     'parts: loop {
         let step = template_text::piece_from(text, at);
@@ -47,15 +48,15 @@ pub fn all_known(text: &[u8], entries: &[u32], added: &[u8]) -> Validity
                     continue;
                 }
                 let id = &text[start..start + length];
-                let mut i = entries.len() / Entry::WIDTH;
+                let mut i: usize = 0;
                 loop {
-                    if i == 0 {
+                    if i == count {
                         break 'parts;
                     }
-                    i -= 1;
                     if template_find::has_id(entries, i, added, id) {
                         break;
                     }
+                    i += 1;
                 }
             }
         }

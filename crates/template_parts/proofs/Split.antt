@@ -1,12 +1,13 @@
 -- What splitting is: the parts joined by single separators give the text back, no part holds a separator, and no other
--- parts do both. And the first part, with what is left after it.
+-- parts do both. And the first part, with what is left after it, and how many there are at most.
 -- Assumes nothing.
 use mathlib.Core.Path.{_≡_, refl, ap, sym, _∙_}
 use mathlib.Core.Bool.{Bool, true, false, cond}
-use Prim.Native.Nat.{ℕ, suc}
+use Prim.Native.Nat.{ℕ, suc, _≤_}
+use native.Mathlib.Omega.{arith}
 use mathlib.Core.List.{List, [], _∷_, _++_, append-nil}
 use lib.Dec.{eqb}
-use lib.ListN.{take, drop}
+use lib.ListN.{length, take, drop}
 use borrow.Author.Tests.{eqb-true, eqb-false, eq-eqb, ne-eqb}
 use Rattle.lists.specs.Lists.{All}
 use Rattle.template_parts.specs.Split.{led, split, joined, Without}
@@ -28,6 +29,22 @@ split-first separator (byte ∷ text) = go (eqb byte separator) (split-first sep
     go : (here : Bool) → split separator text ≡ take (lengthTo separator text) text ∷ after separator (drop (lengthTo separator text) text) → cond here ([] ∷ split separator text) (led byte (split separator text)) ≡ take (cond here 0 (suc (lengthTo separator text))) (byte ∷ text) ∷ after separator (drop (cond here 0 (suc (lengthTo separator text))) (byte ∷ text))
     go true rest = refl
     go false rest = ap (led byte) rest
+
+-- ---- How many parts
+
+led-few : (byte : ℕ) (parts : List (List ℕ)) → length (led byte parts) ≤ suc (length parts)
+led-few byte [] = omega arith
+led-few byte (part ∷ parts) = omega arith
+
+-- at most one more than the text has bytes
+pub split-few : (separator : ℕ) (text : List ℕ) → length (split separator text) ≤ suc (length text)
+unfolding split
+split-few separator [] = omega arith
+split-few separator (byte ∷ text) = go (eqb byte separator) (split-few separator text)
+  where
+    go : (here : Bool) → length (split separator text) ≤ suc (length text) → length (cond here ([] ∷ split separator text) (led byte (split separator text))) ≤ suc (suc (length text))
+    go true few = omega arith
+    go false few = omega (arith, led-few byte (split separator text))
 
 -- ---- The parts determine the text
 

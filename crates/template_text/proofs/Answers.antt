@@ -3,12 +3,14 @@
 use mathlib.Core.Path.{_≡_, ap, _∙_}
 use mathlib.Core.Bool.{Bool, true, false, cond}
 use mathlib.Core.Option.{Option, none as nothing, some}
-use Prim.Native.Nat.{ℕ, _≤_}
+use Prim.Native.Nat.{ℕ, _≤_, _<_}
+use native.Mathlib.Omega.{arith}
 use mathlib.Core.List.{List}
 use lib.ListN.{length}
 use Rattle.record.proofs.WellFormed.{tells-le, tells-and}
 use Rattle.record.specs.declared.Refusal.the-variants.{PartUnreadable, TemplateTooLong}
-use Rattle.template_parts.specs.Parts.{parts}
+use Rattle.template_parts.specs.Parts.{space, parts}
+use Rattle.template_parts.proofs.Split.{split-few}
 use Rattle.template_pieces.specs.Piece.{Piece}
 use Rattle.template_text.specs.Template.{mostBytes, mostParts, readParts, unread, reads, short, ofPieces, readTemplate}
 use Rattle.template_text.proofs.Walked.{Walked}
@@ -18,6 +20,10 @@ use Rattle.template_text.proofs.Coming.{come-end, come-bad}
 
 pub short-is : (text : List ℕ) → short text ≡ true → (length text ≤ mostBytes) × (length (parts text) ≤ mostParts)
 short-is text = tells-and (tells-le (length text) mostBytes) (tells-le (length (parts text)) mostParts) .so
+
+-- few bytes have few parts
+pub few-parts : (text : List ℕ) → length text < mostParts → length (parts text) ≤ mostParts
+few-parts text h = omega (arith, split-few space text)
 
 pub template-long : (text : List ℕ) → short text ≡ false → readTemplate text ≡ unread TemplateTooLong
 unfolding readTemplate

@@ -131,6 +131,10 @@ pub fn is_short(text: &[u8]) -> bool
     if text.len() > Template::MOST_BYTES {
         return false;
     }
+    // A text has at most one part more than it has bytes, so those of a short one need no counting.
+    if text.len() < Template::MOST_PARTS {
+        return true;
+    }
     template_parts::count_parts(text) <= Template::MOST_PARTS
 }
 
