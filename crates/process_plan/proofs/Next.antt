@@ -1,125 +1,122 @@
--- What the part at a place is to the plan: as it is told from the numbers of its piece, and what that says.
+-- What comes at a place to the plan: as it is told from the numbers of a piece, and what that says to a walk over the pieces.
 -- Assumes nothing.
 use mathlib.Core.Path.{_≡_, refl, ap, sym, subst, _∙_}
-use mathlib.Core.Bool.{Bool, true, false, cond}
+use mathlib.Core.Bool.{Bool, true, false, not, _&&_, cond}
 use mathlib.Core.Option.{Option, none as nothing, some}
-use mathlib.Core.List.{List, [], _∷_}
-use Prim.Native.Nat.{ℕ}
-use lib.ListN.{take, drop}
-use Rattle.template_parts.specs.Parts.{stepAt}
-use Rattle.template_parts.specs.declared.PartAnswer.{PartAnswer}
-use Rattle.template_parts.specs.declared.PartAnswer.the-variants.{Part, End}
-use Rattle.template_pieces.specs.Piece.{Piece, sequenceA, sequenceB, special, readPart, pieceAnswer}
-use Rattle.template_pieces.specs.declared.PieceAnswer.the-variants.{Unreadable as NotRead}
-use Rattle.template_pieces.proofs.Lies.{ReadAs, answer-none, kind-special}
+use mathlib.Core.List.{List, [], _∷_, _++_}
+use Prim.Native.Nat.{ℕ, _+_, _-_, _<_}
+use lib.Dec.{eqb}
+use lib.ListN.{length}
+use borrow.Author.Tests.{eq-eqb, eqb-true, eqb-false}
+use Rattle.lookup_ranges.specs.First.{part}
+use Rattle.template_parts.specs.Parts.{parts}
+use Rattle.template_pieces.specs.Piece.{Piece, special}
+use Rattle.template_pieces.proofs.Lies.{kind-special}
+use Rattle.template_text.specs.Template.{readParts}
+use Rattle.template_text.specs.Comes.{comesAt}
+use Rattle.template_text.specs.declared.PieceStep.{PieceStep}
+use Rattle.template_text.specs.declared.PieceStep.the-variants.{End, Unreadable as NotRead, Read}
+use Rattle.template_text.proofs.Walked.{Walked}
+use Rattle.template_text.proofs.Coming.{Passing, come-end, come-bad, come-piece}
 use Rattle.process_steps.specs.declared.Step.{Step}
-use Rattle.process_plan.specs.Piece.{specialStep, stepOf, stepAnswer, knownStep, pieceStep, readStep, partStep, nextStep}
+use Rattle.process_plan.specs.Piece.{specialStep, stepOf, stepAnswer, knownStep, comingStep, nextStep}
 use Rattle.process_plan.specs.declared.StepAnswer.{StepAnswer}
 use Rattle.process_plan.specs.declared.StepAnswer.the-variants.{Unknown, Found}
 use Rattle.process_plan.specs.declared.NextStep.{NextStep}
 use Rattle.process_plan.specs.declared.NextStep.the-variants.{Ended, Unreadable, NotKnown, LeftOut, Next}
-use Rattle.process_plan.proofs.Piece.{bytes, listed, stepsOf, piece-step, piece-unknown}
+use Rattle.process_plan.proofs.Piece.{answer-found, answer-none, stepsOf, piece-step, piece-unknown}
 
 -- ---- As it is told
 
 module _ (entries added : List ℕ) (add : Bool) (text : List ℕ) (at : ℕ) where
-  pub tells-end : stepAt text at .answer ≡ End → Ended ≡ nextStep entries added add text at
+  pub tells : {coming : PieceStep} → comesAt text at ≡ coming → comingStep entries added add text coming ≡ nextStep entries added add text at
   unfolding nextStep
-  tells-end e = sym (ap (partStep entries added add text (stepAt text at .next)) e)
+  tells e = sym (ap (comingStep entries added add text) e)
 
-  module _ {start size : ℕ} (e : stepAt text at .answer ≡ Part start size) where
-    abbrev of-part : Option Piece
-    of-part = readPart start (take size (drop start text))
+  module _ {kind type start size next : ℕ} (e : comesAt text at ≡ Read kind type start size next) where
+    pub tells-left : kind ≡ 2 → add ≡ false → LeftOut next ≡ nextStep entries added add text at
+    tells-left k out = sym (sym (tells e) ∙ rw (eq-eqb kind 2 k, out))
 
-    tells : {o : Option Piece} → of-part ≡ o → readStep entries added add (stepAt text at .next) o ≡ nextStep entries added add text at
-    unfolding nextStep
-    tells o = sym (ap (partStep entries added add text (stepAt text at .next)) e ∙ ap (readStep entries added add (stepAt text at .next)) o)
+    module _ (adds : kind ≡ 2 → add ≡ true) {answer : StepAnswer} (said : answer ≡ stepAnswer (stepOf entries added kind type (part start (start + size) text))) where
+      not-left : (eqb kind 2 && not add) ≡ false
+      not-left = go (eqb kind 2) refl
+        where
+          go : (b : Bool) → eqb kind 2 ≡ b → (b && not add) ≡ false
+          go true k = rw (adds (eqb-true kind 2 k))
+          go false k = refl
 
-    pub tells-unread : pieceAnswer of-part ≡ NotRead → Unreadable ≡ nextStep entries added add text at
-    tells-unread u = tells (answer-none of-part u)
+      pub tells-unknown : answer ≡ Unknown → NotKnown ≡ nextStep entries added add text at
+      tells-unknown u = sym (sym (tells e) ∙ rw (not-left, answer-none (stepOf entries added kind type (part start (start + size) text)) (sym said ∙ u)))
 
-    module _ {kind type place long : ℕ} (r : ReadAs text of-part kind type place long) where
-      -- a special piece
-      special-step : kind ≡ 2 → pieceStep entries added add (stepAt text at .next) (r .piece) ≡ cond add (knownStep (stepAt text at .next) (specialStep entries added type (bytes text place long))) (LeftOut (stepAt text at .next))
-      special-step k = ap (pieceStep entries added add (stepAt text at .next)) (kind-special (r .piece) (r .is) k)
-
-      pub tells-left : {next : ℕ} → next ≡ stepAt text at .next → kind ≡ 2 → add ≡ false → LeftOut next ≡ nextStep entries added add text at
-      tells-left n k out = sym (sym (tells (r .holds)) ∙ special-step k ∙ rw (out, n))
-
-      module _ (adds : kind ≡ 2 → add ≡ true) {answer : StepAnswer} (said : answer ≡ stepAnswer (stepOf entries added kind type (bytes text place long))) where
-        pub tells-unknown : answer ≡ Unknown → NotKnown ≡ nextStep entries added add text at
-        tells-unknown u =
-            let (k, none) = piece-unknown entries added (r .piece) (r .is) (sym said ∙ u) in
-            sym (sym (tells (r .holds)) ∙ special-step k ∙ rw (adds k, none))
-
-        pub tells-step : {next : ℕ} {s : Step} → next ≡ stepAt text at .next → answer ≡ Found s → Next s next ≡ nextStep entries added add text at
-        tells-step {next} {s} n f = sym (sym (tells (r .holds)) ∙ go (r .piece) (piece-step entries added add (r .piece) (r .is) adds (sym said ∙ f)) ∙ ap (Next s) (sym n))
-          where
-            known : (b : Bool) (o : Option Step) → cond b (listed o) [] ≡ s ∷ [] → cond b (knownStep (stepAt text at .next) o) (LeftOut (stepAt text at .next)) ≡ Next s (stepAt text at .next)
-            known true nothing e = cc
-            known true (some q) e = let same : q ≡ s = cc in rw same refl
-            known false o e = cc
-
-            go : (p : Piece) → stepsOf entries added add p ≡ s ∷ [] → pieceStep entries added add (stepAt text at .next) p ≡ Next s (stepAt text at .next)
-            go (sequenceA t) e = cc
-            go (sequenceB t) e = cc
-            go (special place id t) e = known add (specialStep entries added t id) e
+      pub tells-step : {s : Step} → answer ≡ Found s → Next s next ≡ nextStep entries added add text at
+      tells-step f = sym (sym (tells e) ∙ rw (not-left, answer-found (stepOf entries added kind type (part start (start + size) text)) (sym said ∙ f)))
 
 -- ---- What it says
 
--- A piece with these steps stands at the place, and the next part at another.
-pub record Passed (entries added : List ℕ) (add : Bool) (text : List ℕ) (at : ℕ) (steps : List Step) (next : ℕ) : Type 0 where
-  pub start : ℕ
-  pub size : ℕ
-  pub found : stepAt text at .answer ≡ Part start size
+-- A piece with these steps comes after those passed, and `next` is the place after it.
+pub record Passed (entries added : List ℕ) (add : Bool) (text : List ℕ) (at : ℕ) (passed : List Piece) (steps : List Step) (next : ℕ) : Type 0 where
   pub piece : Piece
-  pub holds : readPart start (take size (drop start text)) ≡ some piece
   pub steps-are : stepsOf entries added add piece ≡ steps
-  pub moves : next ≡ stepAt text at .next
+  pub walked : Walked text next (passed ++ (piece ∷ []))
+  pub less : length text + 1 - next < length text + 1 - at
+  pub few : length passed < length (parts text)
 
--- A part that cannot be read stands there.
-pub record Unread (text : List ℕ) (at : ℕ) : Type 0 where
-  pub start : ℕ
-  pub size : ℕ
-  pub found : stepAt text at .answer ≡ Part start size
-  pub holds : readPart start (take size (drop start text)) ≡ nothing
-
--- A special piece stands there whose id is unknown, though it is needed.
-pub record NoStep (entries added : List ℕ) (add : Bool) (text : List ℕ) (at : ℕ) : Type 0 where
-  pub start : ℕ
-  pub size : ℕ
-  pub found : stepAt text at .answer ≡ Part start size
+-- A special piece comes whose id is unknown, though it is needed.
+pub record NoStep (entries added : List ℕ) (add : Bool) (text : List ℕ) (passed : List Piece) : Type 0 where
   pub place : ℕ
   pub id : List ℕ
   pub type : ℕ
-  pub holds : readPart start (take size (drop start text)) ≡ some (special place id type)
+  pub next : ℕ
+  pub walked : Walked text next (passed ++ (special place id type ∷ []))
   pub adds : add ≡ true
   pub missing : specialStep entries added type id ≡ nothing
 
-abbrev pub Says : List ℕ → List ℕ → Bool → List ℕ → ℕ → NextStep → Type 0
-Says entries added add text at Ended = stepAt text at .answer ≡ End
-Says entries added add text at Unreadable = Unread text at
-Says entries added add text at NotKnown = NoStep entries added add text at
-Says entries added add text at (LeftOut n) = Passed entries added add text at [] n
-Says entries added add text at (Next s n) = Passed entries added add text at (s ∷ []) n
+abbrev pub Says : List ℕ → List ℕ → Bool → List ℕ → ℕ → List Piece → NextStep → Type 0
+Says entries added add text at passed Ended = readParts 0 (parts text) ≡ some passed
+Says entries added add text at passed Unreadable = readParts 0 (parts text) ≡ nothing
+Says entries added add text at passed NotKnown = NoStep entries added add text passed
+Says entries added add text at passed (LeftOut n) = Passed entries added add text at passed [] n
+Says entries added add text at passed (Next s n) = Passed entries added add text at passed (s ∷ []) n
 
-module _ (entries added : List ℕ) (add : Bool) (text : List ℕ) (at : ℕ) where
-  module _ {start size : ℕ} (e : stepAt text at .answer ≡ Part start size) where
-    says-special : (place : ℕ) (id : List ℕ) (t : ℕ) → readPart start (take size (drop start text)) ≡ some (special place id t) → (b : Bool) → add ≡ b → (o : Option Step) → specialStep entries added t id ≡ o → Says entries added add text at (cond b (knownStep (stepAt text at .next) o) (LeftOut (stepAt text at .next)))
-    says-special place id t h true a nothing q = record { start = start; size = size; found = e; place = place; id = id; type = t; holds = h; adds = a; missing = q }
-    says-special place id t h true a (some s) q = record { start = start; size = size; found = e; piece = special place id t; holds = h; steps-are = rw (a, q); moves = refl }
-    says-special place id t h false a o q = record { start = start; size = size; found = e; piece = special place id t; holds = h; steps-are = rw a; moves = refl }
+module _ (entries added : List ℕ) (add : Bool) {text : List ℕ} {at : ℕ} {passed : List Piece} where
+  module _ {kind type start size next : ℕ} (p : Passing text at passed kind type start size next) where
+    abbrev id : List ℕ
+    id = part start (start + size) text
 
-    says-read : (o : Option Piece) → readPart start (take size (drop start text)) ≡ o → Says entries added add text at (readStep entries added add (stepAt text at .next) o)
-    says-read nothing h = record { start = start; size = size; found = e; holds = h }
-    says-read (some (sequenceA t)) h = record { start = start; size = size; found = e; piece = sequenceA t; holds = h; steps-are = refl; moves = refl }
-    says-read (some (sequenceB t)) h = record { start = start; size = size; found = e; piece = sequenceB t; holds = h; steps-are = refl; moves = refl }
-    says-read (some (special place id t)) h = says-special place id t h add refl (specialStep entries added t id) refl
+    stepped : {steps : List Step} → stepsOf entries added add (p .piece) ≡ steps → Passed entries added add text at passed steps next
+    stepped e = record { piece = p .piece; steps-are = e; walked = p .walked; less = p .less; few = p .few }
 
-  pub next-says : {r : NextStep} → r ≡ nextStep entries added add text at → Says entries added add text at r
+    says-left : kind ≡ 2 → add ≡ false → Passed entries added add text at passed [] next
+    says-left k out = stepped (ap (stepsOf entries added add) (kind-special (p .piece) (p .is) k) ∙ rw out)
+
+    says-step : (kind ≡ 2 → add ≡ true) → (o : Option Step) → stepOf entries added kind type id ≡ o → Says entries added add text at passed (knownStep next o)
+    unfolding stepAnswer
+    says-step adds (some s) e = stepped (piece-step entries added add (p .piece) (p .is) adds (ap stepAnswer e))
+    says-step adds nothing e =
+        let (k, none) = piece-unknown entries added (p .piece) (p .is) (ap stepAnswer e) in
+        record {
+          place = start;
+          id = id;
+          type = type;
+          next = next;
+          walked = subst (λ (q : Piece). Walked text next (passed ++ (q ∷ []))) (kind-special (p .piece) (p .is) k) (p .walked);
+          adds = adds k;
+          missing = none;
+        }
+
+    says-piece : Says entries added add text at passed (comingStep entries added add text (Read kind type start size next))
+    says-piece = go (eqb kind 2) refl add refl
+      where
+        go : (b : Bool) → eqb kind 2 ≡ b → (a : Bool) → add ≡ a → Says entries added add text at passed (cond (b && not a) (LeftOut next) (knownStep next (stepOf entries added kind type id)))
+        go true k true a = says-step (λ _. a) (stepOf entries added kind type id) refl
+        go true k false a = says-left (eqb-true kind 2 k) a
+        go false k b a = says-step (λ e. absurd (eqb-false kind 2 k e)) (stepOf entries added kind type id) refl
+
+  pub next-says : Walked text at passed → {r : NextStep} → r ≡ nextStep entries added add text at → Says entries added add text at passed r
   unfolding nextStep
-  next-says e = subst (Says entries added add text at) (sym e) (go (stepAt text at .answer) refl)
+  next-says w e = subst (Says entries added add text at passed) (sym e) (go (comesAt text at) refl)
     where
-      go : (a : PartAnswer) → stepAt text at .answer ≡ a → Says entries added add text at (partStep entries added add text (stepAt text at .next) a)
-      go End e = e
-      go (Part start size) e = says-read e (readPart start (take size (drop start text))) refl
+      go : (c : PieceStep) → comesAt text at ≡ c → Says entries added add text at passed (comingStep entries added add text c)
+      go End e = come-end w e
+      go NotRead e = come-bad w e
+      go (Read kind type start size next) e = says-piece (come-piece w e)

@@ -4,11 +4,11 @@ use mathlib.Core.Path.{_≡_, refl, ap, sym, _∙_}
 use mathlib.Core.Bool.{Bool, true, cond}
 use mathlib.Core.Option.{Option, none as nothing, some, Option·map}
 use mathlib.Core.List.{List, [], _∷_}
-use Prim.Native.Nat.{ℕ, _+_, _-_}
+use Prim.Native.Nat.{ℕ, _+_}
 use native.Mathlib.Omega.{arith}
-use lib.ListN.{getD, take, drop}
+use lib.ListN.{getD}
 use borrow.Author.Tests.{eq-eqb, ne-eqb}
-use Rattle.lookup_ranges.specs.First.{lastFrom}
+use Rattle.lookup_ranges.specs.First.{lastFrom, part}
 use Rattle.template_pieces.specs.Piece.{Piece, sequenceA, sequenceB, special, pieceNumbers}
 use Rattle.template_pieces.proofs.Lies.{PieceIs, kind-special}
 use Rattle.template_entries.specs.Table.{entriesIn}
@@ -52,12 +52,12 @@ module _ (entries added : List ℕ) {kind : ℕ} (t : ℕ) (id : List ℕ) where
       answer-entry e = rw (ne-eqb kind 0 a, ne-eqb kind 1 b) (step-found t (lastFrom (entryHasId added id) 0 (entriesIn entries)) e)
 
 -- what the answer says of the step
-answer-found : (o : Option Step) {s : Step} → stepAnswer o ≡ Found s → o ≡ some s
+pub answer-found : (o : Option Step) {s : Step} → stepAnswer o ≡ Found s → o ≡ some s
 unfolding stepAnswer
 answer-found nothing e = cc
 answer-found (some s) e = cc
 
-answer-none : (o : Option Step) → stepAnswer o ≡ Unknown → o ≡ nothing
+pub answer-none : (o : Option Step) → stepAnswer o ≡ Unknown → o ≡ nothing
 unfolding stepAnswer
 answer-none nothing e = refl
 answer-none (some s) e = cc
@@ -68,10 +68,6 @@ answer-none (some s) e = cc
 abbrev pub listed : Option Step → List Step
 listed nothing = []
 listed (some s) = s ∷ []
-
--- so many bytes of a text, as they are lent
-abbrev pub bytes : List ℕ → ℕ → ℕ → List ℕ
-bytes text start size = take (start + size - start) (drop start text)
 
 -- the numbers of a piece
 module _ {text : List ℕ} {kind type start size : ℕ} {p : Piece} (is : PieceIs text kind type start size p) where
@@ -90,23 +86,23 @@ module _ (entries added : List ℕ) where
 
   module _ {text : List ℕ} {kind type start size : ℕ} where
     -- the step that the numbers of a piece give
-    pub piece-step : (add : Bool) (p : Piece) → PieceIs text kind type start size p → (kind ≡ 2 → add ≡ true) → {s : Step} → stepAnswer (stepOf entries added kind type (bytes text start size)) ≡ Found s → stepsOf add p ≡ s ∷ []
+    pub piece-step : (add : Bool) (p : Piece) → PieceIs text kind type start size p → (kind ≡ 2 → add ≡ true) → {s : Step} → stepAnswer (stepOf entries added kind type (part start (start + size) text)) ≡ Found s → stepsOf add p ≡ s ∷ []
     unfolding stepOf
-    piece-step add (sequenceA t) is adds e = ap listed (rw (kind-is is, type-is is) at (answer-found (stepOf entries added kind type (bytes text start size)) e))
-    piece-step add (sequenceB t) is adds e = ap listed (rw (kind-is is, type-is is) at (answer-found (stepOf entries added kind type (bytes text start size)) e))
+    piece-step add (sequenceA t) is adds e = ap listed (rw (kind-is is, type-is is) at (answer-found (stepOf entries added kind type (part start (start + size) text)) e))
+    piece-step add (sequenceB t) is adds e = ap listed (rw (kind-is is, type-is is) at (answer-found (stepOf entries added kind type (part start (start + size) text)) e))
     piece-step add (special place id t) is adds {s} e =
-        let step : specialStep entries added type (bytes text start size) ≡ some s = rw (kind-is is) at (answer-found (stepOf entries added kind type (bytes text start size)) e) in
+        let step : specialStep entries added type (part start (start + size) text) ≡ some s = rw (kind-is is) at (answer-found (stepOf entries added kind type (part start (start + size) text)) e) in
         ap (stepsOf add) (kind-special (special place id t) is (kind-is is)) ∙ rw (adds (kind-is is), step)
 
     -- only a special piece has no step
-    pub piece-unknown : (p : Piece) → PieceIs text kind type start size p → stepAnswer (stepOf entries added kind type (bytes text start size)) ≡ Unknown → (kind ≡ 2) × (specialStep entries added type (bytes text start size) ≡ nothing)
+    pub piece-unknown : (p : Piece) → PieceIs text kind type start size p → stepAnswer (stepOf entries added kind type (part start (start + size) text)) ≡ Unknown → (kind ≡ 2) × (specialStep entries added type (part start (start + size) text) ≡ nothing)
     unfolding stepOf
     piece-unknown (sequenceA t) is e =
-        let none : some (First type) ≡ nothing = rw (kind-is is) at (answer-none (stepOf entries added kind type (bytes text start size)) e) in
+        let none : some (First type) ≡ nothing = rw (kind-is is) at (answer-none (stepOf entries added kind type (part start (start + size) text)) e) in
         let z : _≡_ {A = ℕ} 0 1 = cc in
         absurd (omega arith)
     piece-unknown (sequenceB t) is e =
-        let none : some (Second type) ≡ nothing = rw (kind-is is) at (answer-none (stepOf entries added kind type (bytes text start size)) e) in
+        let none : some (Second type) ≡ nothing = rw (kind-is is) at (answer-none (stepOf entries added kind type (part start (start + size) text)) e) in
         let z : _≡_ {A = ℕ} 0 1 = cc in
         absurd (omega arith)
-    piece-unknown (special place id t) is e = (kind-is is, rw (kind-is is) at (answer-none (stepOf entries added kind type (bytes text start size)) e))
+    piece-unknown (special place id t) is e = (kind-is is, rw (kind-is is) at (answer-none (stepOf entries added kind type (part start (start + size) text)) e))

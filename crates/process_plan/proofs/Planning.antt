@@ -12,17 +12,16 @@ use Rattle.record.specs.Read.{allOk}
 use Rattle.record.specs.declared.Refusal.the-variants.{PartUnreadable, SpecialIdUnknown}
 use Rattle.lists.proofs.Sets.{sets-append, sets-over}
 use Rattle.lookup_ranges.specs.First.{lastFrom}
-use Rattle.template_parts.specs.Parts.{parts, stepAt}
-use Rattle.template_parts.specs.declared.PartAnswer.the-variants.{End}
+use Rattle.template_parts.specs.Parts.{parts}
 use Rattle.template_pieces.specs.Piece.{Piece, special}
 use Rattle.template_text.specs.Template.{mostParts, pieceWidth, readParts}
 use Rattle.template_text.proofs.Answers.{short-is, template-holds}
-use Rattle.template_text.proofs.Walked.{Walked, walked-start, walked-on, walked-first, walked-few, walked-end, walked-bad, walked-moves}
+use Rattle.template_text.proofs.Walked.{Walked, walked-start, walked-first}
 use Rattle.template_entries.specs.Table.{Special, entriesIn}
 use Rattle.template_find.specs.Last.{lastWith}
 use Rattle.template_find.specs.Contracts.{entryHasId}
 use Rattle.template_entries.proofs.Sound.{TableHolds, table-holds}
-use Rattle.process_plan.proofs.Next.{Passed, Unread, NoStep}
+use Rattle.process_plan.proofs.Next.{Passed, NoStep}
 use Rattle.template_find.proofs.Found.{missing}
 use Rattle.lists.proofs.FlatMap.{flatMap-append}
 use Rattle.template_known.specs.Known.{isThere, known}
@@ -90,10 +89,9 @@ module _ {text : List ℕ} {add : Bool} {entries added steps : List ℕ} {at cou
     few : length planned ≤ mostParts
     few = omega (arith, steps-few entries added add (g .passed), g .walked .number, short-is text (ask .is-short) .1)
 
-    pub plan-end : stepAt text at .answer ≡ End → Plans text add entries added (Steps count) steps′
+    pub plan-end : readParts 0 (parts text) ≡ some (g .passed) → Plans text add entries added (Steps count) steps′
     plan-end e members table pieces t r all =
         let h = table-holds entries members added t in
-        let passed-all : readParts 0 (parts text) ≡ some (g .passed) = walked-end (g .walked) e in
         let whole : readParts 0 (parts text) ≡ some pieces = template-holds text r in
         let same : pieces ≡ g .passed = cc in
         rw same
@@ -111,32 +109,27 @@ module _ {text : List ℕ} {add : Bool} {entries added steps : List ℕ} {at cou
         })
 
   -- a part that cannot be read
-  pub plan-bad : Unread text at → Plans text add entries added (Refused PartUnreadable) steps′
-  plan-bad u members table pieces t r all =
-      let none : readParts 0 (parts text) ≡ nothing = walked-bad (g .walked) (u .found) (u .holds) in
+  pub plan-bad : readParts 0 (parts text) ≡ nothing → Plans text add entries added (Refused PartUnreadable) steps′
+  plan-bad none members table pieces t r all =
       let whole : readParts 0 (parts text) ≡ some pieces = template-holds text r in
       let z : _≡_ {A = ℕ} 0 1 = cc in
       absurd (omega arith)
 
   -- a special id that is unknown
-  pub plan-unknown : NoStep entries added add text at → Plans text add entries added (Refused SpecialIdUnknown) steps′
+  pub plan-unknown : NoStep entries added add text (g .passed) → Plans text add entries added (Refused SpecialIdUnknown) steps′
   unfolding known
   plan-unknown u members table pieces t q all =
       let piece = special (u .place) (u .id) (u .type) in
-      let first = walked-first (walked-on (g .walked) (u .found) (u .holds)) (template-holds text q) in
+      let first = walked-first (u .walked) (template-holds text q) in
       let known-all : allOk (known table) (g .passed ++ (piece ∷ first .0)) ≡ true = rw (first .1, append-assoc) at (all (u .adds)) in
       let none : lastWith (u .id) table ≡ nothing = not-there (table-holds entries members added t) (u .type) (u .id) (u .missing) in
       let known-one : isThere (lastWith (u .id) table) ≡ true = holds-of (known table) (g .passed) piece (first .0) known-all in
       let z : _≡_ {A = ℕ} 0 1 = cc in
       absurd (omega arith)
 
-  module _ {new : List Step} {next : ℕ} (p : Passed entries added add text at new next) where
-    -- the place moves on
-    pub plan-less : length text + 1 - next < length text + 1 - at
-    plan-less = let moves = walked-moves (g .walked) (p .found) in omega (arith, moves .0, moves .1, p .moves)
-
+  module _ {new : List Step} {next : ℕ} (p : Passed entries added add text at (g .passed) new next) where
     pub plan-few : AskPlan text entries added steps → count < mostParts
-    plan-few ask = omega (arith, g .counted, steps-few entries added add (g .passed), walked-few (g .walked) (p .found), short-is text (ask .is-short) .1)
+    plan-few ask = omega (arith, g .counted, steps-few entries added add (g .passed), p .few, short-is text (ask .is-short) .1)
 
     pub plan-room : AskPlan text entries added steps → count * pieceWidth + pieceWidth ≤ length steps′
     plan-room ask = omega (arith, kept, ask .room, plan-few ask)
@@ -148,22 +141,21 @@ module _ {text : List ℕ} {add : Bool} {entries added steps : List ℕ} {at cou
     pub plan-on : {count′ : ℕ} {steps″ : List ℕ} → count′ ≡ count + length new → steps″ ≡ sets steps′ (count * pieceWidth) (flatMap stepNumbers new) → Planning text add entries added steps next count′ steps″
     plan-on {count′} {steps″} c w =
         let reach : count * pieceWidth ≡ 0 + length (flatMap stepNumbers planned) = omega (arith, length-steps planned, g .counted) in
-        rw (p .moves)
-        (record {
+        record {
           passed = g .passed ++ (p .piece ∷ []);
-          walked = walked-on (g .walked) (p .found) (p .holds);
+          walked = p .walked;
           counted = omega (arith, c, g .counted, ap length more, length-append planned new);
           written =
               w
               ∙ rw (g .written, reach, more) (sets-append steps 0 (flatMap stepNumbers planned) (flatMap stepNumbers new) ∙ ap (sets steps 0) (sym (flatMap-append stepNumbers planned new)));
-        })
+        }
 
   -- a special piece that is left out
-  pub plan-left : {next : ℕ} → Passed entries added add text at [] next → Planning text add entries added steps next count steps′
+  pub plan-left : {next : ℕ} → Passed entries added add text at (g .passed) [] next → Planning text add entries added steps next count steps′
   unfolding flatMap
   plan-left p = plan-on p (omega arith) refl
 
   -- any other piece, whose step was written
-  pub plan-step : {s : Step} {next : ℕ} {steps″ : List ℕ} → Passed entries added add text at (s ∷ []) next → steps″ ≡ sets steps′ (count * pieceWidth) (stepNumbers s) → Planning text add entries added steps next (count + 1) steps″
+  pub plan-step : {s : Step} {next : ℕ} {steps″ : List ℕ} → Passed entries added add text at (g .passed) (s ∷ []) next → steps″ ≡ sets steps′ (count * pieceWidth) (stepNumbers s) → Planning text add entries added steps next (count + 1) steps″
   unfolding flatMap
   plan-step {s} p w = plan-on p (omega arith) (w ∙ ap (sets steps′ (count * pieceWidth)) (sym (append-nil (stepNumbers s))))

@@ -1,16 +1,14 @@
 -- The step of one piece, by its numbers and the entries of a table: their members are not needed to find it.
 -- Assumes nothing: these are definitions.
-use mathlib.Core.Bool.{Bool, cond}
+use mathlib.Core.Bool.{Bool, not, _&&_, cond}
 use mathlib.Core.Option.{Option, none as nothing, some, Option·map}
 use mathlib.Core.List.{List}
-use Prim.Native.Nat.{ℕ}
+use Prim.Native.Nat.{ℕ, _+_}
 use lib.Dec.{eqb}
-use lib.ListN.{take, drop}
-use Rattle.lookup_ranges.specs.First.{lastFrom}
-use Rattle.template_parts.specs.Parts.{stepAt}
-use Rattle.template_parts.specs.declared.PartAnswer.{PartAnswer}
-use Rattle.template_parts.specs.declared.PartAnswer.the-variants.{Part, End}
-use Rattle.template_pieces.specs.Piece.{Piece, sequenceA, sequenceB, special, readPart}
+use Rattle.lookup_ranges.specs.First.{lastFrom, part}
+use Rattle.template_text.specs.Comes.{comesAt}
+use Rattle.template_text.specs.declared.PieceStep.{PieceStep}
+use Rattle.template_text.specs.declared.PieceStep.the-variants.{End, Unreadable as NotRead, Read}
 use Rattle.template_entries.specs.Table.{entriesIn}
 use Rattle.template_find.specs.Contracts.{entryHasId}
 use Rattle.process_steps.specs.declared.Step.{Step}
@@ -32,25 +30,18 @@ unfoldable pub stepAnswer : Option Step → StepAnswer
 stepAnswer nothing = Unknown
 stepAnswer (some s) = Found s
 
--- ---- What the part at a place is to the plan, and the place after it
+-- ---- What comes at a place to the plan, and the place after it
 
 abbrev pub knownStep : ℕ → Option Step → NextStep
 knownStep next nothing = NotKnown
 knownStep next (some s) = Next s next
 
 -- "special pieces only if special tokens are added"
-abbrev pub pieceStep : List ℕ → List ℕ → Bool → ℕ → Piece → NextStep
-pieceStep entries added add next (sequenceA t) = Next (First t) next
-pieceStep entries added add next (sequenceB t) = Next (Second t) next
-pieceStep entries added add next (special start id t) = cond add (knownStep next (specialStep entries added t id)) (LeftOut next)
-
-abbrev pub readStep : List ℕ → List ℕ → Bool → ℕ → Option Piece → NextStep
-readStep entries added add next nothing = Unreadable
-readStep entries added add next (some p) = pieceStep entries added add next p
-
-abbrev pub partStep : List ℕ → List ℕ → Bool → List ℕ → ℕ → PartAnswer → NextStep
-partStep entries added add text next End = Ended
-partStep entries added add text next (Part start size) = readStep entries added add next (readPart start (take size (drop start text)))
+abbrev pub comingStep : List ℕ → List ℕ → Bool → List ℕ → PieceStep → NextStep
+comingStep entries added add text End = Ended
+comingStep entries added add text NotRead = Unreadable
+comingStep entries added add text (Read kind t start size next) =
+    cond (eqb kind 2 && not add) (LeftOut next) (knownStep next (stepOf entries added kind t (part start (start + size) text)))
 
 unfoldable pub nextStep : List ℕ → List ℕ → Bool → List ℕ → ℕ → NextStep
-nextStep entries added add text at = partStep entries added add text (stepAt text at .next) (stepAt text at .answer)
+nextStep entries added add text at = comingStep entries added add text (comesAt text at)

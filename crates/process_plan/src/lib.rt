@@ -5,9 +5,8 @@ ghost use Rattle.process_plan.specs.Contracts.{TableFits, AskPlan, Plans
 use process_steps::Step;
 use record::Refusal;
 use template_find::FoundEntry;
-use template_parts::PartAnswer;
 use template_pieces::Kind;
-use template_pieces::PieceAnswer;
+use template_text::PieceStep;
 
 // Refused, or so many steps.
 pub enum PlanAnswer {
@@ -15,8 +14,8 @@ pub enum PlanAnswer {
     Steps(usize),
 }
 
-// What a part is to the plan: none is left, it cannot be read, its special id is unknown; it is left out, or has a step, and
-// the place of the part after it.
+// What comes at a place to the plan: the end, a part that cannot be read, a piece whose special id is unknown; a piece that is
+// left out, or that has a step, and the place after it.
 pub enum NextStep {
     Ended,
     Unreadable,
@@ -61,7 +60,7 @@ pub fn plan(
     }
 }
 
-// What the part at a place of a template is to its plan.
+// What comes at a place of a template to its plan.
 fn next_step(
     text: &[u8],
     at: usize,
@@ -72,28 +71,27 @@ fn next_step(
     requires { ⌜ TableFits (now entries) (now added) ⌝ }
     ensures { λ r. ⌜ r ≡ nextStep (now (entries .entry)) (now (added .entry)) «add_special_tokens» (now (text .entry)) at ⌝ }
 {
-    let part = template_parts::part_from(text, at);
-    let answer = part.answer;
-    let PartAnswer::Part { start, length } = answer else {
-        return NextStep::Ended;
-    };
-    let PieceAnswer::Read {
-        kind,
-        type_id,
-        start,
-        length,
-    } = template_pieces::read_piece(text, start, length)
-    else {
-        return NextStep::Unreadable;
-    };
-    if kind == Kind::SPECIAL && !add_special_tokens {
-        return NextStep::LeftOut(part.next);
+    let coming = template_text::piece_from(text, at);
+    match coming {
+        PieceStep::End => NextStep::Ended,
+        PieceStep::Unreadable => NextStep::Unreadable,
+        PieceStep::Read {
+            kind,
+            type_id,
+            start,
+            length,
+            next,
+        } => {
+            if kind == Kind::SPECIAL && !add_special_tokens {
+                return NextStep::LeftOut(next);
+            }
+            let id = &text[start..start + length];
+            let StepAnswer::Found(step) = step_of(kind, type_id, entries, added, id) else {
+                return NextStep::NotKnown;
+            };
+            NextStep::Next(step, next)
+        }
     }
-    let id = &text[start..start + length];
-    let StepAnswer::Found(step) = step_of(kind, type_id, entries, added, id) else {
-        return NextStep::NotKnown;
-    };
-    NextStep::Next(step, part.next)
 }
 
 // The step of a piece of a kind: of a sequence, or of the entry of a special id, whose number has room in a step because the

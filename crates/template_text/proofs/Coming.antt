@@ -10,6 +10,7 @@ use lib.ListN.{length, take, drop}
 use Rattle.template_parts.specs.Parts.{parts, stepAt}
 use Rattle.template_parts.specs.declared.PartAnswer.{PartAnswer}
 use Rattle.template_parts.specs.declared.PartAnswer.the-variants.{Part, End as NoPart}
+use Rattle.template_parts.proofs.Parts.{part-found}
 use Rattle.template_pieces.specs.Piece.{Piece, readPart, pieceAnswer}
 use Rattle.template_pieces.specs.declared.PieceAnswer.{PieceAnswer}
 use Rattle.template_pieces.specs.declared.PieceAnswer.the-variants.{Unreadable as NoPiece, Read as ReadPiece}
@@ -50,6 +51,19 @@ module _ (next : ℕ) where
   with-more : (a : PieceAnswer) → withNext next a ≡ End → ⊥
   with-more NoPiece e = let z : _≡_ {A = ℕ} 0 1 = cc in omega arith
   with-more (ReadPiece kind type start size) e = let z : _≡_ {A = ℕ} 0 1 = cc in omega arith
+
+-- ---- At any place
+
+-- the id of a piece that comes lies in the text
+pub come-within : (text : List ℕ) (at : ℕ) {kind type place long next : ℕ} → comesAt text at ≡ Read kind type place long next → place + long ≤ length text
+unfolding comesAt
+come-within text at {kind} {type} {place} {long} {next} e = go (stepAt text at .answer) refl e
+  where
+    go : (a : PartAnswer) → stepAt text at .answer ≡ a → ofPart text (stepAt text at .next) a ≡ Read kind type place long next → place + long ≤ length text
+    go NoPart is e = let z : _≡_ {A = ℕ} 0 1 = cc in absurd (omega arith)
+    go (Part start size) is e =
+        let r = piece-read text start size (part-found text at is .inside) (with-read (stepAt text at .next) (pieceAnswer (readPart start (take size (drop start text)))) e .0) in
+        piece-within (r .piece) (r .is)
 
 -- ---- On a walk
 

@@ -8,7 +8,7 @@ use denote.Ref.{now}
 use borrow.Author.Needs.{needs}
 use Rattle.process_plan.specs.declared.NextStep.the-variants.{LeftOut, Next}
 use Rattle.process_plan.proofs.Next.{Says, next-says}
-use Rattle.process_plan.proofs.Planning.{Planning, kept, plan-start, plan-end, plan-bad, plan-less, plan-few, plan-room, plan-unknown, plan-left, plan-step}
+use Rattle.process_plan.proofs.Planning.{Planning, kept, plan-start, plan-end, plan-bad, plan-few, plan-room, plan-unknown, plan-left, plan-step}
 use Rattle.process_plan.proofs.plan.Statement.{statement}
 use Rattle.process_plan.proofs.plan.Tie as tie
 
@@ -23,11 +23,11 @@ abbrev Began : tie.At-loop Inv-loop μ-loop → tie.Start Inv-loop μ-loop
 Began c = c .before .before .before .before .before
 
 -- what the part at the place says: a special piece that is left out, or a step
-left : (c : tie.After-next Inv-loop μ-loop) → let n = c .before .before in let v = Began (n .before) .args in Says (now (v .entries)) (now (v .added)) (v .add-special-tokens) (now (v .text)) (n .before .loop .at) (LeftOut (c .next .given .0 .0))
-left c = next-says _ _ _ _ _ (sym (c .next .given .1) ∙ c .before .before .next-step .ensures)
+left : (c : tie.After-next Inv-loop μ-loop) → let n = c .before .before in let v = Began (n .before) .args in Says (now (v .entries)) (now (v .added)) (v .add-special-tokens) (now (v .text)) (n .before .loop .at) (n .before .loop .inv .passed) (LeftOut (c .next .given .0 .0))
+left c = next-says _ _ _ (c .before .before .before .loop .inv .walked) (sym (c .next .given .1) ∙ c .before .before .next-step .ensures)
 
-step : (c : tie.After-step Inv-loop μ-loop) → let n = c .before .before in let v = Began (n .before) .args in Says (now (v .entries)) (now (v .added)) (v .add-special-tokens) (now (v .text)) (n .before .loop .at) (Next (c .step .given .0 .0) (c .step .given .0 .1 .0))
-step c = next-says _ _ _ _ _ (sym (c .step .given .1) ∙ c .before .before .next-step .ensures)
+step : (c : tie.After-step Inv-loop μ-loop) → let n = c .before .before in let v = Began (n .before) .args in Says (now (v .entries)) (now (v .added)) (v .add-special-tokens) (now (v .text)) (n .before .loop .at) (n .before .loop .inv .passed) (Next (c .step .given .0 .0) (c .step .given .0 .1 .0))
+step c = next-says _ _ _ (c .before .before .before .loop .inv .walked) (sym (c .step .given .1) ∙ c .before .before .next-step .ensures)
 
 loop-holds : tie.Need-loop-holds Inv-loop μ-loop
 loop-holds c = plan-start _ _ _ _ _
@@ -42,7 +42,7 @@ same-length : tie.Need-same-length Inv-loop μ-loop
 same-length c = kept (c .before .before .before .loop .inv)
 
 returns : tie.Need-returns Inv-loop μ-loop
-returns c = let n = c .before .before in plan-end (n .before .loop .inv) (Began (n .before) .pre) (next-says _ _ _ _ _ (sym (c .enum-told .given .1) ∙ n .next-step .ensures))
+returns c = let n = c .before .before in plan-end (n .before .loop .inv) (Began (n .before) .pre) (next-says _ _ _ (n .before .loop .inv .walked) (sym (c .enum-told .given .1) ∙ n .next-step .ensures))
 
 enum-told-2 : tie.Need-enum-told-2 Inv-loop μ-loop
 enum-told-2 c = search needs
@@ -51,7 +51,7 @@ same-length-2 : tie.Need-same-length-2 Inv-loop μ-loop
 same-length-2 c = kept (c .before .before .before .loop .inv)
 
 returns-2 : tie.Need-returns-2 Inv-loop μ-loop
-returns-2 c = let n = c .before .before in plan-bad (n .before .loop .inv) (next-says _ _ _ _ _ (sym (c .enum-told2 .given .1) ∙ n .next-step .ensures))
+returns-2 c = let n = c .before .before in plan-bad (n .before .loop .inv) (next-says _ _ _ (n .before .loop .inv .walked) (sym (c .enum-told2 .given .1) ∙ n .next-step .ensures))
 
 enum-told-3 : tie.Need-enum-told-3 Inv-loop μ-loop
 enum-told-3 c = search needs
@@ -60,13 +60,13 @@ same-length-3 : tie.Need-same-length-3 Inv-loop μ-loop
 same-length-3 c = kept (c .before .before .before .loop .inv)
 
 returns-3 : tie.Need-returns-3 Inv-loop μ-loop
-returns-3 c = let n = c .before .before in plan-unknown (n .before .loop .inv) (next-says _ _ _ _ _ (sym (c .enum-told3 .given .1) ∙ n .next-step .ensures))
+returns-3 c = let n = c .before .before in plan-unknown (n .before .loop .inv) (next-says _ _ _ (n .before .loop .inv .walked) (sym (c .enum-told3 .given .1) ∙ n .next-step .ensures))
 
 enum-known-next : tie.Need-enum-known-next Inv-loop μ-loop
 enum-known-next c = search needs
 
 loop-less : tie.Need-loop-less Inv-loop μ-loop
-loop-less c = plan-less (c .before .before .before .before .loop .inv) (left (c .before))
+loop-less c = left (c .before) .less
 
 loop-again : tie.Need-loop-again Inv-loop μ-loop
 loop-again c = plan-left (c .before .before .before .before .loop .inv) (left (c .before))
@@ -81,7 +81,7 @@ add-count : tie.Need-add-count Inv-loop μ-loop
 add-count c = let s = c .before .before .before .before .before in let l = s .before .before .before in omega (arith, plan-few (l .loop .inv) (step s) (Began l .pre))
 
 loop-less-2 : tie.Need-loop-less-2 Inv-loop μ-loop
-loop-less-2 c = let s = c .before .before .before .before .before in plan-less (s .before .before .before .loop .inv) (step s)
+loop-less-2 c = step (c .before .before .before .before .before) .less
 
 loop-again-2 : tie.Need-loop-again-2 Inv-loop μ-loop
 loop-again-2 c = let s = c .before .before .before .before .before in plan-step (s .before .before .before .loop .inv) (step s) (c .before .before .write-step .ensures)
