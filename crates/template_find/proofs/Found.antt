@@ -3,20 +3,18 @@
 use mathlib.Core.Path.{_≡_, refl, ap, _∙_}
 use mathlib.Core.Bool.{Bool, true, false, cond}
 use mathlib.Core.Option.{Option, none as nothing, some}
-use Prim.Native.Nat.{ℕ, zero, suc, _+_, _*_, _/_, _≤_, _<_}
+use Prim.Native.Nat.{ℕ, zero, suc, _+_, _/_, _≤_, _<_}
 use native.Mathlib.Omega.{arith}
 use mathlib.Core.List.{List, [], _∷_, map}
-use lib.ListN.{length, getD, drop, length-drop}
-use lib.Seq.{length-take-le}
+use lib.ListN.{length, getD}
 use Rattle.lists.specs.Lists.{All}
 use Rattle.lookup_ranges.specs.First.{lastFrom, orElse}
 use Rattle.lookup_ranges.proofs.First.{last-found, last-nothing}
-use Rattle.lists.proofs.All.{all-at}
 use Rattle.template_entries.specs.Table.{Entry, Special, entryWidth, memberWidth, noEntry, entriesIn, membersIn, specialOf}
 use Rattle.template_find.specs.Contracts.{entryHasId, foundAnswer, IdsInside}
 use Rattle.template_find.specs.Last.{noSpecial, atPlace, hasId, lastWith}
 use Rattle.template_find.specs.declared.FoundEntry.the-variants.{Unknown, At}
-use Rattle.template_entries.proofs.Entries.{entries-number, members-number, entry-is}
+use Rattle.template_entries.proofs.Entries.{entries-number}
 use Rattle.template_entries.proofs.Sound.{EntryFits, TableHolds}
 
 -- what is found in a list of images is found in the list
@@ -90,11 +88,3 @@ module _ {entries members added : List ℕ} {table : List Special} (h : TableHol
     found-is =
         ap (atPlace table) (search-is id ∙ found-at entries added id e)
         ∙ ap some (ap (λ (l : List Special). getD l k noSpecial) (h .table-is) ∙ map-nth (specialOf (membersIn members) added) (entriesIn entries) k noEntry noSpecial (omega (arith, found-among entries added id e, entries-number entries)))
-
-  -- an entry has as many members as it has ids
-  pub ids-number : {k : ℕ} → k < length entries / entryWidth → length (specialAt k .members) ≡ getD entries (k * entryWidth + 3) 0
-  ids-number {k} among =
-      let fits = all-at (EntryFits (length members / memberWidth) (length added)) (entriesIn entries) k noEntry (omega (arith, entries-number entries)) (h .entries-fit) in
-      let e = getD (entriesIn entries) k noEntry in
-      length-take-le (e .ids) (drop (e .first) (membersIn members)) (omega (arith, fits .1, length-drop (e .first) (membersIn members), members-number members))
-      ∙ ap (λ (entry : Entry). entry .ids) (entry-is entries k among)

@@ -7,7 +7,6 @@ ghost use Rattle.template_text.specs.Template.{readTemplate};
 ghost use Rattle.template_walk.specs.Contracts.{CountedIn, IdsOf};
 ghost use Rattle.template_walk.specs.Sequences.{sequencesAnswer};
 use record::Refusal;
-use template_entries::Entry;
 use template_find::FoundEntry;
 use template_pieces::Kind;
 use template_text::PieceStep;
@@ -101,7 +100,8 @@ pub fn ids_of(entries: &[u32], added: &[u8], id: &[u8]) -> u64
     let FoundEntry::At(i) = template_find::find(entries, added, id) else {
         return 0;
     };
-    wide(entries[i * Entry::WIDTH + Entry::IDS])
+    let members = template_entries::members_of(entries, i);
+    wide(members.count)
 }
 
 pub fn wide(x: u32) -> u64
