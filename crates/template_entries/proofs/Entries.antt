@@ -1,6 +1,6 @@
 -- The entries and members of a table, by their places among its numbers.
 -- Assumes nothing.
-use mathlib.Core.Path.{_≡_, refl, ap, _∙_}
+use mathlib.Core.Path.{_≡_, _∙_}
 use Prim.Native.Nat.{ℕ, zero, suc, _+_, _*_, _/_, _≤_, _<_}
 use native.Mathlib.Nat.{suc-mul, zero-mul}
 use native.Mathlib.Omega.{arith}
@@ -11,14 +11,10 @@ use mathlib.Core.List.{List}
 use lib.ListN.{length, getD, drop}
 use lib.Seq.{drop-drop, getD-drop}
 use Rattle.record.specs.Read.{several}
+use Rattle.record.proofs.Several.{length-several}
 use Rattle.template_entries.specs.Table.{Entry, Member, entryWidth, memberWidth, entryAt, memberAt, noEntry, noMember, entriesIn, membersIn, entryOk, memberOk, agrees}
 
 module _ {A : Type 0} (at : List ℕ → A) (width : ℕ) where
-  several-number : (n : ℕ) (l : List ℕ) → length (several at width n l) ≡ n
-  unfolding several
-  several-number zero l = refl
-  several-number (suc n) l = ap suc (several-number n (drop width l))
-
   several-nth : (n : ℕ) (l : List ℕ) (k : ℕ) (d : A) → k < n → getD (several at width n l) k d ≡ at (drop (k * width) l)
   unfolding several
   several-nth zero l k d h = absurd (omega arith)
@@ -30,11 +26,11 @@ module _ {A : Type 0} (at : List ℕ → A) (width : ℕ) where
 module _ (numbers : List ℕ) where
   pub entries-number : length (entriesIn numbers) ≡ length numbers / entryWidth
   unfolding entriesIn
-  entries-number = several-number entryAt entryWidth (length numbers / entryWidth) numbers
+  entries-number = length-several entryAt entryWidth (length numbers / entryWidth) numbers
 
   pub members-number : length (membersIn numbers) ≡ length numbers / memberWidth
   unfolding membersIn
-  members-number = several-number memberAt memberWidth (length numbers / memberWidth) numbers
+  members-number = length-several memberAt memberWidth (length numbers / memberWidth) numbers
 
   module _ (k : ℕ) where
     -- entry k, by its numbers
