@@ -1,16 +1,17 @@
 -- What reading a u32 is: it succeeds on exactly the texts of an optional + and one or more digits whose decimal value a u32
--- holds, and gives that value. Assumes nothing.
+-- holds, and gives that value; so on none with a byte above the digits. Assumes nothing.
 use mathlib.Core.Path.{_≡_, refl, ap, sym, _∙_, subst}
 use mathlib.Core.Logic.{_⊎_, inl, inr, ⊎-elim}
 use mathlib.Core.Bool.{Bool, true, false, _&&_, cond}
-use mathlib.Core.Option.{none as nothing, some}
-use Prim.Native.Nat.{ℕ, _≤_}
+use mathlib.Core.Option.{Option, none as nothing, some}
+use Prim.Native.Nat.{ℕ, zero, suc, _≤_, _<_}
 use native.Mathlib.Omega.{arith}
 use mathlib.Core.List.{List, [], _∷_}
 use lib.Dec.{leb, eqb}
-use lib.ListN.{length}
+use lib.ListN.{length, getD}
 use borrow.Author.Tests.{ne-eqb, eqb-true}
 use Rattle.lists.specs.Lists.{All}
+use Rattle.lists.proofs.All.{all-at}
 use Rattle.record.proofs.WellFormed.{Tells, tells-le, tells-and, tells-and₃, tells-all}
 use Rattle.lines.specs.Decimal.{zeroByte, nineByte, both, isDigit, decimal, largestU32}
 use Rattle.template_numbers.specs.Number.{plus, afterSign, isNumber, u32Of, readNumber}
@@ -78,3 +79,23 @@ writes-read text n w =
     let rest : afterSign text ≡ w .digits = ⊎-elim (λ e. ap afterSign e ∙ after-digits (w .digits) (w .only)) (λ e. ap afterSign e ∙ after-plus (w .digits)) (w .signed) in
     ap u32Of rest
     ∙ rw (tells-number (w .digits) .back (w .some-digit, w .only, subst (λ (k : ℕ). k ≤ largestU32) (sym (w .value)) (w .fits))) (ap some (w .value))
+
+-- ---- What is no number
+
+only-digits : (digits : List ℕ) (k : ℕ) → All IsDigit digits → k < length digits → nineByte < getD digits k 0 → ⊥
+only-digits digits k all h above = omega (arith, all-at IsDigit digits k 0 h all .1)
+
+only-signed : (digits : List ℕ) (k : ℕ) → All IsDigit digits → k < length (plus ∷ digits) → nineByte < getD (plus ∷ digits) k 0 → ⊥
+only-signed digits zero all h above = omega arith
+only-signed digits (suc k) all h above = only-digits digits k all (omega arith) above
+
+-- a text with a byte above the digits at some place
+pub above-none : (text : List ℕ) (k : ℕ) → k < length text → nineByte < getD text k 0 → readNumber text ≡ nothing
+above-none text k h above = go (readNumber text) refl
+  where
+    go : (o : Option ℕ) → readNumber text ≡ o → o ≡ nothing
+    go nothing e = refl
+    go (some n) e =
+        let w = read-writes text n e in
+        absurd
+        (⊎-elim (λ t. only-digits (w .digits) k (w .only) (rw t at h) (rw t at above)) (λ t. only-signed (w .digits) k (w .only) (rw t at h) (rw t at above)) (w .signed))

@@ -1,6 +1,6 @@
 -- The number of bytes before the first of a kind: one step at a place of a text, its bound, and the search for it from a
 -- place on. Assumes nothing.
-use mathlib.Core.Path.{_≡_}
+use mathlib.Core.Path.{_≡_, refl}
 use mathlib.Core.Bool.{Bool, true, false, cond}
 use Prim.Native.Nat.{ℕ, suc, _+_, _≤_, _<_}
 use native.Mathlib.Numerals.{add-one}
@@ -9,7 +9,7 @@ use mathlib.Core.List.{List, [], _∷_}
 use lib.Dec.{eqb}
 use lib.ListN.{length, getD, drop, drop-of-length-le}
 use lib.Seq.{drop-cons}
-use borrow.Author.Tests.{eq-eqb, ne-eqb}
+use borrow.Author.Tests.{eqb-true, eq-eqb, ne-eqb}
 use Rattle.template_parts.specs.Parts.{lengthTo}
 use Rattle.template_parts.specs.Contracts.{FoundFrom}
 
@@ -34,6 +34,17 @@ length-to-most byte (b ∷ text) = go (eqb b byte) (length-to-most byte text)
     go : (here : Bool) → lengthTo byte text ≤ length text → cond here 0 (suc (lengthTo byte text)) ≤ suc (length text)
     go true h = omega arith
     go false h = omega arith
+
+-- what stands there, unless the text ends
+pub length-to-byte : (byte : ℕ) (text : List ℕ) → lengthTo byte text < length text → getD text (lengthTo byte text) 0 ≡ byte
+unfolding lengthTo
+length-to-byte byte [] h = absurd (omega arith)
+length-to-byte byte (b ∷ text) h = go (eqb b byte) refl h (length-to-byte byte text)
+  where
+    go : (here : Bool) → eqb b byte ≡ here → cond here 0 (suc (lengthTo byte text)) < suc (length text) → (lengthTo byte text < length text → getD text (lengthTo byte text) 0 ≡ byte)
+        → getD (b ∷ text) (cond here 0 (suc (lengthTo byte text))) 0 ≡ byte
+    go true e h rest = eqb-true b byte e
+    go false e h rest = rest (omega arith)
 
 -- The bytes from `at` up to i are of other kinds, so those from i on decide.
 pub record Looking (text : List ℕ) (at byte i : ℕ) : Type 0 where

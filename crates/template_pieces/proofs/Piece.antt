@@ -1,22 +1,24 @@
 -- What a part is, by its bytes: the sequence that a name is, what stands before a colon, and the colons.
 -- Assumes nothing.
 use mathlib.Core.Path.{_≡_, refl, ap, sym, _∙_}
-use mathlib.Core.Bool.{_||_, cond, and-true, and-false}
+use mathlib.Core.Bool.{Bool, true, false, _||_, cond, and-true, and-false}
 use mathlib.Core.Option.{Option, none as nothing, some, Option·map}
 use Prim.Native.Nat.{ℕ, suc, _+_, _-_, _≤_, _<_}
 use native.Mathlib.Numerals.{add-one}
 use native.Mathlib.Omega.{arith}
 use mathlib.Core.List.{List, [], _∷_}
-use lib.Dec.{eqb}
+use lib.Dec.{eqb, leb}
 use lib.ListN.{length, getD, take, drop, drop-of-length-le, length-drop}
-use lib.Seq.{drop-cons, drop-drop, take-all, take-length, drop-length}
-use borrow.Author.Tests.{eq-eqb, ne-eqb}
+use lib.Seq.{drop-cons, take-all, take-length, drop-length}
+use borrow.Author.Tests.{leb-true, leb-false, eq-eqb, ne-eqb}
 use Rattle.template_parts.specs.Split.{split}
 use Rattle.template_parts.specs.Parts.{lengthTo}
 use Rattle.template_parts.specs.Contracts.{FoundFrom}
+use Rattle.template_parts.proofs.Finding.{length-to-byte}
 use Rattle.template_parts.proofs.Split.{after, split-first}
 use Rattle.template_numbers.specs.Number.{readNumber, numberAnswer}
-use Rattle.template_pieces.specs.Piece.{Piece, sequenceA, sequenceB, special, dollar, colon, upperA, lowerA, upperB, lowerB, same, sequenceOf, named, withType, readPart, pieceAnswer}
+use Rattle.template_numbers.proofs.Number.{above-none}
+use Rattle.template_pieces.specs.Piece.{Piece, sequenceA, sequenceB, special, dollar, colon, upperA, lowerA, upperB, lowerB, same, sequenceOf, named, withType, ofColons, readPart, pieceAnswer}
 use Rattle.template_numbers.specs.declared.NumberAnswer.the-variants.{Unreadable as Bad, Number}
 use Rattle.template_pieces.specs.declared.PieceAnswer.the-variants.{Unreadable, Read}
 
@@ -80,22 +82,31 @@ module _ (start : ℕ) (part : List ℕ) {end : ℕ} (first : FoundFrom part 0 c
         let reach : lengthTo colon part ≡ end = omega (arith, first .place) in
         split-first colon part ∙ rw (reach, add-one, drop-cons part end 0 h)
 
-    module _ {second : ℕ} (next : FoundFrom part (end + 1) colon second) where
-      abbrev rest : List ℕ
-      rest = drop (end + 1) part
+    abbrev rest : List ℕ
+    rest = drop (end + 1) part
 
-      at-second : split colon rest ≡ take (lengthTo colon rest) rest ∷ after colon (drop second part)
-      at-second = split-first colon rest ∙ rw (drop-drop, next .place)
+    -- where the next colon would stand, and what comes after it
+    abbrev second : ℕ
+    second = lengthTo colon rest
 
-      pub one-colon : length part ≤ second → readPart start part ≡ withType (readNumber (take (length part - (end + 1)) rest)) (named start (take end part))
-      unfolding readPart
-      one-colon l =
-          let whole : length rest ≤ lengthTo colon rest = omega (arith, next .place, length-drop (end + 1) part) in
-          rw (at-colon, at-second, take-all (lengthTo colon rest) rest whole, drop-of-length-le part l, take-rest)
+    at-second : split colon part ≡ take end part ∷ take second rest ∷ after colon (drop second rest)
+    at-second = at-colon ∙ ap (_∷_ (take end part)) (split-first colon rest)
 
-      pub more-colons : second < length part → readPart start part ≡ nothing
-      unfolding readPart
-      more-colons l = rw (at-colon, at-second, drop-cons part second 0 l, split-first colon (drop (suc second) part))
+    -- a second colon leaves no number
+    no-number : second < length rest → readNumber rest ≡ nothing
+    no-number more = above-none rest second more (omega (arith, length-to-byte colon rest more))
+
+    pub typed-part : readPart start part ≡ withType (readNumber (take (length part - (end + 1)) rest)) (named start (take end part))
+    unfolding readPart withType
+    typed-part = rw (at-second, take-rest) (go (leb (length rest) second) refl)
+      where
+        go : (all : Bool) → leb (length rest) second ≡ all → ofColons start (take end part ∷ take second rest ∷ after colon (drop second rest)) ≡ withType (readNumber rest) (named start (take end part))
+        go true e =
+            let whole : length rest ≤ second = leb-true (length rest) second e in
+            rw (take-all second rest whole, drop-of-length-le rest whole)
+        go false e =
+            let more : second < length rest = leb-false (length rest) second e in
+            rw (no-number more, drop-cons rest second 0 more, split-first colon (drop (suc second) rest))
 
 -- ---- Answers
 

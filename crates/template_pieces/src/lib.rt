@@ -57,10 +57,7 @@ fn piece_of(part: &[u8], start: usize) -> PieceAnswer
     if end == part.len() {
         return named(part, start);
     }
-    let second = template_parts::find(part, end + 1, COLON);
-    if second < part.len() {
-        return PieceAnswer::Unreadable;
-    }
+    // A second colon is no digit, so it leaves no number.
     let NumberAnswer::Number(type_id) = template_numbers::read_number(&part[end + 1..]) else {
         return PieceAnswer::Unreadable;
     };

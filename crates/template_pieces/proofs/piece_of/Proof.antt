@@ -1,28 +1,31 @@
 -- `piece_of` meets its contract. Assumes nothing.
 use mathlib.Core.Path.{_≡_, ap, sym, _∙_}
-use Prim.Native.Nat.{_+_, _-_, _<_}
+use Prim.Native.Nat.{_+_, _-_}
 use native.Mathlib.Omega.{arith}
 use lib.ListN.{length, take, drop}
 use lib.Seq.{length-take-le}
 use denote.Ref.{now}
 use Rattle.template_numbers.specs.Number.{readNumber}
 use Rattle.template_pieces.specs.Piece.{named, withType, readPart, pieceAnswer}
-use Rattle.template_pieces.proofs.Piece.{no-colon, one-colon, more-colons, typed-none, typed-bad, typed-some}
+use Rattle.template_pieces.proofs.Piece.{no-colon, typed-part, typed-none, typed-bad, typed-some}
 use borrow.Author.Needs.{needs}
 use Rattle.template_pieces.proofs.piece_of.Statement.{statement}
 use Rattle.template_pieces.proofs.piece_of.Tie as tie
 
--- there is a colon
-inside : (c : tie.Else1) → c .before .find .result < length (now (c .before .before .before .args .part))
-inside c = omega (arith, c .before .find .ensures .inside, c .if1 .left)
+-- the places where the colon was found, and where it was looked for
+abbrev Found : tie.Else1 → tie.After-find
+Found c = c .before
 
--- and no other
-parted : (c : tie.Else2)
-    → let start = c .before .before .before .before .before .args .start in
-    let part = now (c .before .before .before .before .before .args .part) in
-    let end = c .before .before .before .find .result in
+abbrev Began : tie.Else1 → tie.Start
+Began c = c .before .before .before
+
+-- there is a colon, and the number after it is the type
+parted : (c : tie.Else1)
+    → let start = Began c .args .start in
+    let part = now (Began c .args .part) in
+    let end = Found c .find .result in
     readPart start part ≡ withType (readNumber (take (length part - (end + 1)) (drop (end + 1) part))) (named start (take end part))
-parted c = one-colon _ _ (c .before .before .before .find .ensures) (inside (c .before .before)) (c .before .find2 .ensures) (c .if2 .left)
+parted c = typed-part _ _ (Found c .find .ensures) (omega (arith, Found c .find .ensures .inside, c .if1 .left))
 
 find-requires : tie.Need-find-requires
 find-requires c κs = search needs
@@ -32,16 +35,6 @@ named-requires c κs = search needs
 
 returns : tie.Need-returns
 returns c = c .named .ensures ∙ ap pieceAnswer (sym (no-colon _ _ (c .before .before .find .ensures) (c .before .if1 .taken)))
-
-add-find : tie.Need-add-find
-add-find c = search needs
-
-find-requires-2 : tie.Need-find-requires-2
-find-requires-2 c κs = search needs
-
-returns-2 : tie.Need-returns-2
-unfolding pieceAnswer
-returns-2 c = ap pieceAnswer (sym (more-colons _ _ (c .before .before .before .find .ensures) (inside (c .before .before)) (c .before .find2 .ensures) (c .if2 .taken)))
 
 add-read-number : tie.Need-add-read-number
 add-read-number c = search needs
@@ -64,12 +57,12 @@ enum-known-type-id c = search needs
 enum-told : tie.Need-enum-told
 enum-told c = search needs
 
-returns-3 : tie.Need-returns-3
-returns-3 c =
+returns-2 : tie.Need-returns-2
+returns-2 c =
     typed-none _ _ (sym (c .before .before .read-number .ensures) ∙ c .enum-told .given .1) ∙ ap pieceAnswer (sym (parted (c .before .before .before .before)))
 
 slice-aggregate-named : tie.Need-slice-aggregate-named
-slice-aggregate-named c = sym (length-take-le _ _ (c .before .before .before .before .before .before .before .before .before .find .ensures .inside))
+slice-aggregate-named c = sym (length-take-le _ _ (c .before .before .before .before .before .before .before .find .ensures .inside))
 
 named-requires-2 : tie.Need-named-requires-2
 named-requires-2 c κs = search needs
@@ -80,13 +73,13 @@ enum-known-kind c = search needs
 enum-told-2 : tie.Need-enum-told-2
 enum-told-2 c = search needs
 
-returns-4 : tie.Need-returns-4
-returns-4 c =
+returns-3 : tie.Need-returns-3
+returns-3 c =
     typed-bad _ _ (sym (c .before .before .named2 .ensures) ∙ c .enum-told2 .given .1)
     ∙ ap pieceAnswer (sym (parted (c .before .before .before .before .before .before .before .before .before)))
 
-returns-5 : tie.Need-returns-5
-returns-5 c =
+returns-4 : tie.Need-returns-4
+returns-4 c =
     let at-number = c .before .before .before .before .before .before in
     typed-some _ _ (sym (at-number .before .before .read-number .ensures) ∙ at-number .type-id .given .1) (sym (c .before .before .before .named2 .ensures) ∙ c .before .kind .given .1)
     ∙ ap pieceAnswer (sym (parted (at-number .before .before .before .before)))
@@ -98,9 +91,6 @@ piece-of-spec =
     find-requires
     named-requires
     returns
-    add-find
-    find-requires-2
-    returns-2
     add-read-number
     sub-read-number
     part-read-number-start
@@ -108,10 +98,10 @@ piece-of-spec =
     read-number-requires
     enum-known-type-id
     enum-told
-    returns-3
+    returns-2
     slice-aggregate-named
     named-requires-2
     enum-known-kind
     enum-told-2
-    returns-4
-    returns-5)
+    returns-3
+    returns-4)
