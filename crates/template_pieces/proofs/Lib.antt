@@ -1,2 +1,3 @@
 mod Piece
 pub mod Lies
+mod Names

@@ -1,78 +1,24 @@
 -- A piece that was read: the id of a special piece lies in the text where its numbers say.
 -- Assumes nothing.
 use mathlib.Core.Path.{_≡_, refl, ap, subst}
-use mathlib.Core.Bool.{Bool, true, false, _||_, cond}
-use mathlib.Core.Option.{Option, none as nothing, some, Option·map}
+use mathlib.Core.Option.{Option, none as nothing, some}
 use Prim.Native.Nat.{ℕ, _+_, _-_, _≤_}
 use native.Mathlib.Nat.{add-sub-cancel-left}
 use native.Mathlib.Omega.{arith}
 use mathlib.Core.List.{List, [], _∷_}
-use lib.Dec.{eqb}
 use lib.ListN.{length, getD, take, drop, length-drop}
 use lib.Seq.{take-take, length-take-le}
 use Rattle.template_parts.specs.Parts.{lengthTo}
 use Rattle.template_parts.proofs.Finding.{length-to-most}
-use Rattle.template_parts.proofs.Split.{after, split-first}
-use Rattle.template_numbers.specs.Number.{readNumber}
-use Rattle.template_pieces.specs.Piece.{Piece, sequenceA, sequenceB, special, dollar, colon, upperA, lowerA, upperB, lowerB, same, sequenceOf, named, withType, ofColons, readPart, pieceNumbers, pieceAnswer}
+use Rattle.template_pieces.specs.Piece.{Piece, sequenceA, sequenceB, special, colon, readPart, pieceNumbers, pieceAnswer}
 use Rattle.template_pieces.specs.declared.PieceAnswer.the-variants.{Unreadable, Read}
-
--- a special piece has this id, at this place
-abbrev Named : ℕ → List ℕ → Piece → Type 0
-Named start id (sequenceA _) = Unit {0}
-Named start id (sequenceB _) = Unit {0}
-Named start id (special place bytes _) = (place ≡ start) × (bytes ≡ id)
+use Rattle.template_pieces.proofs.Names.{Named, Each, part-named}
 
 -- the id of a special piece lies in the text at its place
 abbrev pub Lies : List ℕ → Piece → Type 0
 Lies text (sequenceA _) = Unit {0}
 Lies text (sequenceB _) = Unit {0}
 Lies text (special start id _) = (start + length id ≤ length text) × (take (length id) (drop start text) ≡ id)
-
--- ---- The name of a piece
-
--- every piece that an option holds
-abbrev Each : (Piece → Type 0) → Option Piece → Type 0
-Each P nothing = Unit {0}
-Each P (some piece) = P piece
-
-module _ (start : ℕ) (id : List ℕ) where
-  each-sequence : (number : Option ℕ) → Each (Named start id) (Option·map sequenceA number)
-  each-sequence nothing = tt
-  each-sequence (some n) = tt
-
-  each-cond : (b : Bool) (x y : Option Piece) → Each (Named start id) x → Each (Named start id) y → Each (Named start id) (cond b x y)
-  each-cond true x y hx hy = hx
-  each-cond false x y hx hy = hy
-
-  sequence-named : (name : List ℕ) → Each (Named start id) (sequenceOf name)
-  unfolding sequenceOf
-  sequence-named name =
-      each-cond (same name [] || (same name (upperA ∷ []) || same name (lowerA ∷ []))) _ _ tt
-      (each-cond (same name (upperB ∷ []) || same name (lowerB ∷ [])) _ _ tt (each-sequence (readNumber name)))
-
-  typed-named : (number : Option ℕ) (piece : Option Piece) → Each (Named start id) piece → Each (Named start id) (withType number piece)
-  unfolding withType
-  typed-named nothing piece h = tt
-  typed-named (some t) nothing h = tt
-  typed-named (some t) (some (sequenceA u)) h = tt
-  typed-named (some t) (some (sequenceB u)) h = tt
-  typed-named (some t) (some (special s bytes u)) h = h
-
-name-named : (start : ℕ) (id : List ℕ) → Each (Named start id) (named start id)
-unfolding named
-name-named start [] = (refl, refl)
-name-named start (byte ∷ id) = each-cond start (byte ∷ id) (eqb byte dollar) (sequenceOf id) (some (special start (byte ∷ id) 0)) (sequence-named start (byte ∷ id) id) (refl, refl)
-
--- a part's name is what stands before its colon
-part-named : (start : ℕ) (part : List ℕ) → Each (Named start (take (lengthTo colon part) part)) (readPart start part)
-unfolding readPart
-part-named start part = rw (split-first colon part) (go (take (lengthTo colon part) part) (after colon (drop (lengthTo colon part) part)))
-  where
-    go : (id : List ℕ) (rest : List (List ℕ)) → Each (Named start id) (ofColons start (id ∷ rest))
-    go id [] = name-named start id
-    go id (number ∷ []) = typed-named start id (readNumber number) (named start id) (name-named start id)
-    go id (number ∷ more ∷ rest) = tt
 
 -- ---- Where it lies
 
