@@ -11,7 +11,10 @@ use borrow.Author.Tests.{eq-eqb, ne-eqb}
 use Rattle.lookup_ranges.specs.First.{lastFrom, part}
 use Rattle.template_pieces.specs.Piece.{Piece, sequenceA, sequenceB, special, pieceNumbers}
 use Rattle.template_pieces.proofs.Lies.{PieceIs, kind-special}
-use Rattle.template_entries.specs.Table.{entriesIn}
+use Rattle.template_entries.specs.Table.{Special as SpecialId, entriesIn}
+use Rattle.template_entries.proofs.Sound.{TableHolds}
+use Rattle.template_find.specs.Last.{lastWith}
+use Rattle.template_find.proofs.Found.{missing}
 use Rattle.template_find.specs.Contracts.{entryHasId, foundAnswer}
 use Rattle.template_find.specs.declared.FoundEntry.the-variants.{Unknown as NotFound, At}
 use Rattle.process_steps.specs.declared.Step.{Step}
@@ -61,6 +64,15 @@ pub answer-none : (o : Option Step) → stepAnswer o ≡ Unknown → o ≡ nothi
 unfolding stepAnswer
 answer-none nothing e = refl
 answer-none (some s) e = cc
+
+-- an id without a step is in no table with these entries
+pub not-there : {entries members added : List ℕ} {table : List SpecialId} → TableHolds entries members added table → (t : ℕ) (id : List ℕ) → specialStep entries added t id ≡ nothing → lastWith id table ≡ nothing
+unfolding specialStep
+not-there {entries} {members} {added} {table} h t id e = missing h id (go (lastFrom (entryHasId added id) 0 (entriesIn entries)) e)
+  where
+    go : (o : Option ℕ) → Option·map (Special t) o ≡ nothing → o ≡ nothing
+    go nothing e = refl
+    go (some k) e = cc
 
 -- ---- The steps of a piece
 

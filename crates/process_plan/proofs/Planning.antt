@@ -2,7 +2,7 @@
 -- Assumes nothing.
 use mathlib.Core.Path.{_≡_, refl, ap, sym, _∙_}
 use mathlib.Core.Bool.{Bool, true, false, _&&_}
-use mathlib.Core.Option.{Option, none as nothing, some, Option·map}
+use mathlib.Core.Option.{Option, none as nothing, some}
 use mathlib.Core.List.{List, [], _∷_, _++_, flatMap, append-assoc, append-nil}
 use Prim.Native.Nat.{ℕ, _+_, _*_, _-_, _≤_, _<_}
 use native.Mathlib.Omega.{arith}
@@ -11,31 +11,26 @@ use lib.Seq.{sets, length-sets}
 use Rattle.record.specs.Read.{allOk}
 use Rattle.record.specs.declared.Refusal.the-variants.{PartUnreadable, SpecialIdUnknown}
 use Rattle.lists.proofs.Sets.{sets-append, sets-over}
-use Rattle.lookup_ranges.specs.First.{lastFrom}
 use Rattle.template_parts.specs.Parts.{parts}
 use Rattle.template_pieces.specs.Piece.{Piece, special}
 use Rattle.template_text.specs.Template.{mostParts, pieceWidth, readParts}
 use Rattle.template_text.proofs.Answers.{short-is, template-holds}
 use Rattle.template_text.proofs.Walked.{Walked, walked-start, walked-first}
-use Rattle.template_entries.specs.Table.{Special, entriesIn}
+use Rattle.template_entries.specs.Table.{Special}
 use Rattle.template_find.specs.Last.{lastWith}
-use Rattle.template_find.specs.Contracts.{entryHasId}
-use Rattle.template_entries.proofs.Sound.{TableHolds, table-holds}
+use Rattle.template_entries.proofs.Sound.{table-holds}
 use Rattle.process_plan.proofs.Next.{Passed, NoStep}
-use Rattle.template_find.proofs.Found.{missing}
 use Rattle.lists.proofs.FlatMap.{flatMap-append}
 use Rattle.template_known.specs.Known.{isThere, known}
 use Rattle.process_steps.specs.declared.Step.{Step}
-use Rattle.process_steps.specs.declared.Step.the-variants.{Special as SpecialStep}
 use Rattle.process_steps.specs.Steps.{stepNumbers}
 use Rattle.process_steps.proofs.Steps.{length-steps}
-use Rattle.process_plan.specs.Piece.{specialStep}
 use Rattle.process_plan.specs.Contracts.{AskPlan, Plans}
 use Rattle.process_plan.specs.declared.PlanAnswer.the-variants.{Refused, Steps}
-use Rattle.process_plan.proofs.Piece.{stepsOf}
+use Rattle.process_plan.proofs.Piece.{stepsOf, not-there}
 use Rattle.process_plan.proofs.Joined.{steps-few, steps-fine, steps-made}
 
--- ---- Lists, and an id that is unknown
+-- ---- Lists
 
 -- one more element
 flatMap-more : {A B : Type 0} (f : A → List B) (xs : List A) (x : A) {ys : List B} → f x ≡ ys → flatMap f (xs ++ (x ∷ [])) ≡ flatMap f xs ++ ys
@@ -54,15 +49,6 @@ holds-of t (q ∷ ps) p qs e = holds-of t ps p qs (go (t q) e)
     go : (b : Bool) → (b && allOk t (ps ++ (p ∷ qs))) ≡ true → allOk t (ps ++ (p ∷ qs)) ≡ true
     go true e = e
     go false e = cc
-
--- an id without a step is in no table with these entries
-not-there : {entries members added : List ℕ} {table : List Special} → TableHolds entries members added table → (t : ℕ) (id : List ℕ) → specialStep entries added t id ≡ nothing → lastWith id table ≡ nothing
-unfolding specialStep
-not-there {entries} {members} {added} {table} h t id e = missing h id (go (lastFrom (entryHasId added id) 0 (entriesIn entries)) e)
-  where
-    go : (o : Option ℕ) → Option·map (SpecialStep t) o ≡ nothing → o ≡ nothing
-    go nothing e = refl
-    go (some k) e = cc
 
 -- ---- Planning
 
