@@ -22,7 +22,7 @@ use Rattle.template_find.proofs.Found.{missing, found-among, found-is}
 use Rattle.process_steps.specs.declared.Step.{Step}
 use Rattle.process_steps.specs.Applied.{ofSpecial, applied, lacksSecond}
 use Rattle.process_steps.specs.Steps.{stepEncoding, StepFine}
-use Rattle.process_plan.specs.Piece.{specialStep}
+use Rattle.process_plan.specs.Contracts.{specialStep}
 use Rattle.process_plan.proofs.Piece.{listed, stepsOf}
 
 -- ---- A second encoding that no piece lacks

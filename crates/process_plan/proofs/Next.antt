@@ -19,7 +19,7 @@ use Rattle.template_text.specs.declared.PieceStep.the-variants.{End, Unreadable
 use Rattle.template_text.proofs.Walked.{Walked}
 use Rattle.template_text.proofs.Coming.{Passing, come-end, come-bad, come-piece}
 use Rattle.process_steps.specs.declared.Step.{Step}
-use Rattle.process_plan.specs.Piece.{specialStep, stepOf, stepAnswer, knownStep, comingStep, nextStep}
+use Rattle.process_plan.specs.Contracts.{specialStep, stepOf, stepAnswer, knownStep, comingStep, nextStep}
 use Rattle.process_plan.specs.declared.StepAnswer.{StepAnswer}
 use Rattle.process_plan.specs.declared.StepAnswer.the-variants.{Unknown, Found}
 use Rattle.process_plan.specs.declared.NextStep.{NextStep}

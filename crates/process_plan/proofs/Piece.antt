@@ -19,7 +19,7 @@ use Rattle.template_find.specs.Contracts.{entryHasId, foundAnswer}
 use Rattle.template_find.specs.declared.FoundEntry.the-variants.{Unknown as NotFound, At}
 use Rattle.process_steps.specs.declared.Step.{Step}
 use Rattle.process_steps.specs.declared.Step.the-variants.{First, Second, Special}
-use Rattle.process_plan.specs.Piece.{specialStep, stepOf, stepAnswer}
+use Rattle.process_plan.specs.Contracts.{specialStep, stepOf, stepAnswer}
 use Rattle.process_plan.specs.declared.StepAnswer.the-variants.{Unknown, Found}
 
 -- ---- The answer, kind by kind

@@ -1,7 +1,6 @@
 // The steps by which a template is applied, from its text and the special table (document 01, module 9).
 ghost use mathlib.Core.Path.{_≡_};
-ghost use Rattle.process_plan.specs.Piece.{stepOf, stepAnswer, nextStep};
-ghost use Rattle.process_plan.specs.Contracts.{TableFits, AskPlan, Plans};
+ghost use Rattle.process_plan.specs.Contracts.{stepOf, stepAnswer, nextStep, TableFits, AskPlan, Plans};
 use process_steps::Step;
 use record::Refusal;
 use template_find::FoundEntry;
