@@ -18,8 +18,8 @@ use Rattle.join_trees.specs.Outcomes.{joinOutcome}
 
 -- ---- One call
 
--- `merge_with` was called with the nodes and rows of two operands and with an output that held `nodes` and `rows`; it
--- gave this answer, and the output holds nodes′ and rows′. What it promises is all that is known of it.
+-- What `merge_with` promises: called with the nodes and rows of two operands and with an output that held `nodes` and `rows`, it
+-- gave this answer, and the output holds nodes′ and rows′.
 pub record Called (growing : Bool) (first-nodes first-rows second-nodes second-rows nodes rows nodes′ rows′ : List ℕ) (answer : Written) : Type 0 where
   pub promised : Writes (joinOutcome growing (read first-nodes first-rows) (read second-nodes second-rows) nodes rows) answer nodes rows nodes′ rows′
 

@@ -1,7 +1,5 @@
 // Join of two encodings (document 01, "Join"): checked, sized, and then written.
-ghost use Rattle.join_trees.specs.Outcomes.{joinOutcome};
-ghost use Rattle.record.specs.Outcome.{Writes};
-ghost use Rattle.record.specs.Read.{read};
+ghost use Rattle.join.specs.Demand.{Called};
 use join_view::View;
 use record::Refusal;
 use record::Spot;
@@ -18,11 +16,9 @@ pub fn merge_with(
     out_nodes: &mut [u32],
     out_rows: &mut [u32],
 ) -> Written
-    ensures { λ r. ⌜ Writes
-        (joinOutcome growing (read (now («first_nodes» .entry)) (now («first_rows» .entry)))
-        (read (now («second_nodes» .entry)) (now («second_rows» .entry)))
-        (now («out_nodes» .entry)) (now («out_rows» .entry)))
-        r (now («out_nodes» .entry)) (now («out_rows» .entry)) (now («out_nodes» .exit)) (now («out_rows» .exit)) ⌝ }
+    ensures { λ r. ⌜ Called growing (now («first_nodes» .entry)) (now («first_rows» .entry)) (now («second_nodes» .entry))
+        (now («second_rows» .entry)) (now («out_nodes» .entry)) (now («out_rows» .entry)) (now («out_nodes» .exit))
+        (now («out_rows» .exit)) r ⌝ }
 {
     if !record_check::is_one(first_nodes, first_rows) {
         return Written::Refused(Refusal::MalformedRecord);

@@ -19,7 +19,7 @@ same-length-2 c = search needs
 returns : tie.Need-returns
 returns c =
     let s = c .before .before .before .before .before .before in
-    writes-out (s .merge-with .ensures) (c .told .ensures .0) (c .told .ensures .1)
+    writes-out (s .merge-with .ensures .promised) (c .told .ensures .0) (c .told .ensures .1)
 
 pub noddrefyr-merge-with-spec : {M : Type 1} → statement M
 noddrefyr-merge-with-spec = tie.close (tie.spec merge-with-requires told-requires same-length same-length-2 returns)

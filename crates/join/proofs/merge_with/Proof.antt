@@ -31,13 +31,13 @@ is-one-requires : tie.Need-is-one-requires
 is-one-requires c κs = tt
 
 returns : tie.Need-returns
-returns c = writes-refused MalformedRecord (join-malformed-first _ _ _ _ _ (sym (c .before .is-one .ensures) ∙ not-true _ (c .if1 .taken))) refl refl refl refl
+returns c = record { promised = writes-refused MalformedRecord (join-malformed-first _ _ _ _ _ (sym (c .before .is-one .ensures) ∙ not-true _ (c .if1 .taken))) refl refl refl refl }
 
 is-one-requires-2 : tie.Need-is-one-requires-2
 is-one-requires-2 c κs = tt
 
 returns-2 : tie.Need-returns-2
-returns-2 c = writes-refused MalformedRecord (join-malformed-second _ _ _ _ _ (sym (c .before .is-one2 .ensures) ∙ not-true _ (c .if2 .taken))) refl refl refl refl
+returns-2 c = record { promised = writes-refused MalformedRecord (join-malformed-second _ _ _ _ _ (sym (c .before .is-one2 .ensures) ∙ not-true _ (c .if2 .taken))) refl refl refl refl }
 
 join-size-requires : tie.Need-join-size-requires
 join-size-requires c κs =
@@ -55,7 +55,7 @@ has-room-requires c κs = tt
 returns-3 : tie.Need-returns-3
 returns-3 c =
     let e = c .before .before in
-    writes-refused NoRoom (outcome-no-room (the-first (e .before .before .before) .1) (the-second (e .before) .1) _ _ _ (sized e) (sym (c .before .has-room .ensures) ∙ not-true _ (c .if3 .taken))) refl refl refl refl
+    record { promised = writes-refused NoRoom (outcome-no-room (the-first (e .before .before .before) .1) (the-second (e .before) .1) _ _ _ (sized e) (sym (c .before .has-room .ensures) ∙ not-true _ (c .if3 .taken))) refl refl refl refl }
 
 join-fits-requires : tie.Need-join-fits-requires
 join-fits-requires c κs =
@@ -86,9 +86,11 @@ returns-4 c =
     let f = c .before .before .before .before .before .before .before .before in
     let e = f .before .before .before in
     let z = c .before .before .before .before .zero-both .ensures in
-    writes-zeros
-    (outcome-too-large (the-first (e .before .before .before) .1) (the-second (e .before) .1) _ _ _ (sized e) (roomed (f .before)) (sym (fits f) ∙ not-true _ (c .before .before .before .before .before .before .before .if4 .taken)))
-    refl (z .nodes-zero) (z .rows-zero)
+    record {
+      promised = writes-zeros
+          (outcome-too-large (the-first (e .before .before .before) .1) (the-second (e .before) .1) _ _ _ (sized e) (roomed (f .before)) (sym (fits f) ∙ not-true _ (c .before .before .before .before .before .before .before .if4 .taken)))
+          refl (z .nodes-zero) (z .rows-zero);
+    }
 
 join-nodes-requires : tie.Need-join-nodes-requires
 join-nodes-requires c κs =
@@ -109,8 +111,10 @@ returns-5 c =
     let e = f .before .before .before in
     let s = the-first (e .before .before .before) in
     let p = the-second (e .before) in
-    join-writes (s .1) (p .1) _ _ _ (sized e) (roomed (f .before)) (sym (fits f) ∙ not-false _ (t .if4 .left))
-    (c .before .before .before .before .join-nodes .ensures (s .0) (p .0) (one-here (s .1)) (one-here (p .1)) .put)
+    record {
+      promised = join-writes (s .1) (p .1) _ _ _ (sized e) (roomed (f .before)) (sym (fits f) ∙ not-false _ (t .if4 .left))
+          (c .before .before .before .before .join-nodes .ensures (s .0) (p .0) (one-here (s .1)) (one-here (p .1)) .put);
+    }
 
 pub merge-with-spec : {M : Type 1} → statement M
 merge-with-spec =
