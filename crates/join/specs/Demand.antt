@@ -1,5 +1,5 @@
 -- Demand 3 of the request, said of four calls of `merge_with` and of the numbers in the buffers lent to them.
--- It is proved in proofs/Demand. Assumes nothing: these are definitions.
+-- It is proved in proofs/Demand; `join_grouping` makes the four calls. Assumes nothing: these are definitions.
 use mathlib.Core.Path.{_≡_}
 use mathlib.Core.Bool.{Bool}
 use mathlib.Core.Logic.{_⊎_}
