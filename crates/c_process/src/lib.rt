@@ -1,10 +1,7 @@
 // The C interface of the template processor. The function returns the number of its refusal, 0 for none, and gives its values
 // through lent numbers, which a refusal leaves as they were. include/noddrefyr.h is made from this file too.
 ghost use Rattle.c_crossing.specs.Crossing.{WritesOutWith};
-ghost use Rattle.process_check.specs.Process.{textFor, processOutcome};
-ghost use Rattle.record.specs.Read.{read};
-ghost use Rattle.template_entries.specs.Table.{readTable};
-ghost use Rattle.template_text.specs.Template.{readTemplate};
+ghost use Rattle.process_check.specs.Process.{processOutcome};
 
 // One or two encodings put together as the template for one or for two says, special tokens added or left out, written to the
 // output; written is its nodes and its rows. Encoding i gets sequence id i; a template that is not set is `$0`, or
@@ -29,9 +26,8 @@ pub extern "C" fn noddrefyr_process<'a>(
     written: &mut [usize; 2],
 ) -> u32
     ensures { λ r. ⌜ WritesOutWith
-        (processOutcome (readTable (now (entries .entry)) (now (members .entry)) (now (added .entry)))
-        (λ which. readTemplate (textFor «single_set» (now (single .entry)) «pair_set» (now (pair .entry)) which))
-        «add_special_tokens» (read (now (nodes .entry)) (now (rows .entry))) (now («out_nodes» .entry))
+        (processOutcome (now (nodes .entry)) (now (rows .entry)) «single_set» (now (single .entry)) «pair_set» (now (pair .entry))
+        (now (entries .entry)) (now (members .entry)) (now (added .entry)) «add_special_tokens» (now («out_nodes» .entry))
         (now («out_rows» .entry)) (now («working_nodes» .entry)) (now («working_rows» .entry)))
         r (now (written .entry)) (now (written .exit)) (now («out_nodes» .entry)) (now («out_rows» .entry))
         (now («working_nodes» .entry)) (now («working_rows» .entry)) (now («out_nodes» .exit))

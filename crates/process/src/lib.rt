@@ -1,9 +1,6 @@
 // `process` with a template (document 01, module 9): encodings put together as a template's pieces say.
 ghost use Rattle.record.specs.Working.{WritesWith};
-ghost use Rattle.process_check.specs.Process.{textFor, processOutcome};
-ghost use Rattle.record.specs.Read.{read};
-ghost use Rattle.template_entries.specs.Table.{readTable};
-ghost use Rattle.template_text.specs.Template.{readTemplate};
+ghost use Rattle.process_check.specs.Process.{processOutcome};
 use process_check::Decision;
 use record::Written;
 use template_text::Template;
@@ -30,9 +27,8 @@ pub fn process<'a>(
     working_rows: &mut [u32],
 ) -> Written
     ensures { λ r. ⌜ WritesWith
-        (processOutcome (readTable (now (entries .entry)) (now (members .entry)) (now (added .entry)))
-        (λ which. readTemplate (textFor «single_set» (now (single .entry)) «pair_set» (now (pair .entry)) which))
-        «add_special_tokens» (read (now (nodes .entry)) (now (rows .entry))) (now («out_nodes» .entry))
+        (processOutcome (now (nodes .entry)) (now (rows .entry)) «single_set» (now (single .entry)) «pair_set» (now (pair .entry))
+        (now (entries .entry)) (now (members .entry)) (now (added .entry)) «add_special_tokens» (now («out_nodes» .entry))
         (now («out_rows» .entry)) (now («working_nodes» .entry)) (now («working_rows» .entry))) r (now («out_nodes» .entry))
         (now («out_rows» .entry)) (now («working_nodes» .entry)) (now («working_rows» .entry)) (now («out_nodes» .exit))
         (now («out_rows» .exit)) (now («working_nodes» .exit)) (now («working_rows» .exit)) ⌝ }

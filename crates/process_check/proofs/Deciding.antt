@@ -34,7 +34,7 @@ use Rattle.process_steps.specs.Standing.{Inputs}
 use Rattle.process_plan.specs.Contracts.{Plans}
 use Rattle.process_plan.specs.declared.PlanAnswer.{PlanAnswer}
 use Rattle.process_plan.specs.declared.PlanAnswer.the-variants.{Steps, Refused as Unplanned}
-use Rattle.process_check.specs.Process.{whichFor, textFor, applyInto, withTable, processOutcome}
+use Rattle.process_check.specs.Process.{whichFor, textFor, applyInto, withTable, processRead}
 use Rattle.process_check.specs.Contracts.{RefusedBy, TakenBy, usability, Usable}
 use Rattle.process_check.proofs.Inputs.{hasSecond, lacks-told}
 
@@ -127,32 +127,32 @@ text-told single-set single pair-set pair nothing t b = sym (ap readTemplate (rw
 text-told single-set single pair-set pair (some F) t b = sym (ap readTemplate (rw b at t))
 
 module _ (t : Table) (template : Which → TemplateReading) (add : Bool) where
-  pub decide-malformed : (batch : Batch) → isOneOrTwo batch ≡ false → RefusedBy (processOutcome t template add batch) MalformedRecord
-  unfolding processOutcome
+  pub decide-malformed : (batch : Batch) → isOneOrTwo batch ≡ false → RefusedBy (processRead batch t template add) MalformedRecord
+  unfolding processRead
   decide-malformed batch e = record { told = λ a b c d. not-one-or-two (refused MalformedRecord) _ batch e; not-six = refl }
 
   module _ {nodes rows : List ℕ} {E : Encoding} (second : Option Encoding) (h : OneOrTwo nodes rows E second) where
     abbrev after : List ℕ → List ℕ → List ℕ → List ℕ → Encoding → Option Encoding → Table → TemplateReading → Outcome
     after a b c d E second t r = withTable t r (λ specials pieces. applyInto specials add E second pieces a b c d)
 
-    process-of : (a b c d : List ℕ) → processOutcome t template add (read nodes rows) a b c d ≡ after a b c d E second t (template (whichFor second))
-    unfolding processOutcome
+    process-of : (a b c d : List ℕ) → processRead (read nodes rows) t template add a b c d ≡ after a b c d E second t (template (whichFor second))
+    unfolding processRead
     process-of a b c d = one-or-two-of (refused MalformedRecord) (λ E second. after a b c d E second t (template (whichFor second))) h
 
-    pub decide-faulty : {k : Refusal} → t ≡ faulty k → eqb (numberOf k) 6 ≡ false → RefusedBy (processOutcome t template add (read nodes rows)) k
+    pub decide-faulty : {k : Refusal} → t ≡ faulty k → eqb (numberOf k) 6 ≡ false → RefusedBy (processRead (read nodes rows) t template add) k
     unfolding withTable
     decide-faulty e six = record { told = λ a b c d. process-of a b c d ∙ ap (λ (t : Table). after a b c d E second t (template (whichFor second))) e; not-six = six }
 
     module _ {table : List Special} (text : List ℕ) (e : t ≡ sound table) (r : template (whichFor second) ≡ readTemplate text) where
-      comes-to : (a b c d : List ℕ) → processOutcome t template add (read nodes rows) a b c d ≡ outcome E second table add (readTemplate text) a b c d
+      comes-to : (a b c d : List ℕ) → processRead (read nodes rows) t template add a b c d ≡ outcome E second table add (readTemplate text) a b c d
       comes-to a b c d = process-of a b c d ∙ ap₂ (after a b c d E second) e r
 
-      pub decide-unusable : {k : Refusal} → usability table (hasSecond second) add (readTemplate text) ≡ Refused k → RefusedBy (processOutcome t template add (read nodes rows)) k
+      pub decide-unusable : {k : Refusal} → usability table (hasSecond second) add (readTemplate text) ≡ Refused k → RefusedBy (processRead (read nodes rows) t template add) k
       decide-unusable u = let f = unusable E second table add text u in record { told = λ a b c d. comes-to a b c d ∙ f .told a b c d; not-six = f .not-six }
 
       module _ (u : usability table (hasSecond second) add (readTemplate text) ≡ Valid) (entries members added : List ℕ) {numbers : List ℕ} {answer : PlanAnswer} (is : readTable entries members added ≡ sound table) (plans : Plans text add entries added answer numbers) where
         -- the steps fold to what the pieces become
-        pub decide-take : {s : Spot} {count : ℕ} → Inputs nodes rows s E second → answer ≡ Steps count → TakenBy (processOutcome t template add (read nodes rows)) nodes rows entries members numbers s count
+        pub decide-take : {s : Spot} {count : ℕ} → Inputs nodes rows s E second → answer ≡ Steps count → TakenBy (processRead (read nodes rows) t template add) nodes rows entries members numbers s count
         decide-take {s} {count} inputs so =
             let (pieces, w, o) = usable E second table add text u in
             let p = plans members table pieces is (w .reads) (w .all-known) in

@@ -5,12 +5,12 @@ use mathlib.Core.Option.{Option, none as nothing, some}
 use mathlib.Core.List.{List, flatMap}
 use Prim.Native.Nat.{ℕ}
 use Rattle.record.specs.Tree.{Encoding}
-use Rattle.record.specs.Read.{Reading, ofOneOrTwo, allOk}
+use Rattle.record.specs.Read.{Reading, read, ofOneOrTwo, allOk}
 use Rattle.record.specs.Outcome.{Outcome, refused}
 use Rattle.record.specs.declared.Refusal.the-variants.{MalformedRecord, SpecialIdUnknown, BWithoutSecond}
-use Rattle.template_text.specs.Template.{TemplateReading, unread, reads}
+use Rattle.template_text.specs.Template.{TemplateReading, unread, reads, readTemplate}
 use Rattle.template_pieces.specs.Piece.{Piece}
-use Rattle.template_entries.specs.Table.{Special, Table, faulty, sound}
+use Rattle.template_entries.specs.Table.{Special, Table, faulty, sound, readTable}
 use Rattle.join_trees.specs.Outcomes.{foldInto}
 use Rattle.template_text.specs.declared.Which.{Which}
 use Rattle.template_text.specs.declared.Which.the-variants.{Single, Pair}
@@ -42,10 +42,16 @@ withTable (faulty k) reading next = refused k
 withTable (sound table) (unread k) next = refused k
 withTable (sound table) (reads pieces) next = next table pieces
 
--- "Process: 1, 15, 12, 8, 7 (the template used), 11, 10 only when special tokens are added, 2.": the table, the template for
--- one encoding and for two, whether special tokens are added, the batch
-unfoldable pub processOutcome : Table → (Which → TemplateReading) → Bool → Reading → List ℕ → List ℕ → List ℕ → List ℕ → Outcome
-processOutcome table template add batch nodes rows working-nodes working-rows =
+-- "Process: 1, 15, 12, 8, 7 (the template used), 11, 10 only when special tokens are added, 2.": of the batch, the table, the
+-- template for one encoding and for two as they are read, and whether special tokens are added
+unfoldable pub processRead : Reading → Table → (Which → TemplateReading) → Bool → List ℕ → List ℕ → List ℕ → List ℕ → Outcome
+processRead batch table template add nodes rows working-nodes working-rows =
     ofOneOrTwo (refused MalformedRecord)
     (λ E second. withTable table (template (whichFor second)) (λ specials pieces. applyInto specials add E second pieces nodes rows working-nodes working-rows))
     batch
+
+-- and of the numbers and the texts that are lent: the batch; whether the template for one encoding is set, and its text; the
+-- same for two; the special table
+abbrev pub processOutcome : List ℕ → List ℕ → Bool → List ℕ → Bool → List ℕ → List ℕ → List ℕ → List ℕ → Bool → List ℕ → List ℕ → List ℕ → List ℕ → Outcome
+processOutcome nodes rows single-set single pair-set pair entries members added =
+    processRead (read nodes rows) (readTable entries members added) (λ which. readTemplate (textFor single-set single pair-set pair which))

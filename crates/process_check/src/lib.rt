@@ -3,12 +3,10 @@ ghost use mathlib.Core.Bool.{not, _&&_, cond};
 ghost use mathlib.Core.Path.{_≡_};
 ghost use Prim.Native.Nat.{_*_};
 ghost use lib.ListN.{length};
-ghost use Rattle.record.specs.Read.{read};
-ghost use Rattle.template_entries.specs.Table.{readTable};
 ghost use Rattle.template_find.specs.Contracts.{IdsInside};
-ghost use Rattle.template_text.specs.Template.{readTemplate, mostParts, pieceWidth};
+ghost use Rattle.template_text.specs.Template.{mostParts, pieceWidth};
 ghost use Rattle.process_check.specs.Contracts.{Decides, Two, SecondAt, ChecksTemplate, namesSecond};
-ghost use Rattle.process_check.specs.Process.{textFor, processOutcome};
+ghost use Rattle.process_check.specs.Process.{processOutcome};
 use process_plan::PlanAnswer;
 use record::Encoding;
 use record::Refusal;
@@ -41,7 +39,8 @@ pub fn decide<'a>(
 ) -> Decision
     requires { ⌜ length (now steps) ≡ mostParts * pieceWidth ⌝ }
     ensures { λ r. ⌜ Decides
-        (processOutcome (readTable (now (entries .entry)) (now (members .entry)) (now (added .entry))) (λ which. readTemplate (textFor «single_set» (now (single .entry)) «pair_set» (now (pair .entry)) which)) «add_special_tokens» (read (now (nodes .entry)) (now (rows .entry))))
+        (processOutcome (now (nodes .entry)) (now (rows .entry)) «single_set» (now (single .entry)) «pair_set» (now (pair .entry))
+        (now (entries .entry)) (now (members .entry)) (now (added .entry)) «add_special_tokens»)
         (now (nodes .entry)) (now (rows .entry)) (now (entries .entry)) (now (members .entry)) (now (steps .exit)) r ⌝ }
 {
     if !record_check::is_one_or_two(nodes, rows) {
