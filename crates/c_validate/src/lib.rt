@@ -6,11 +6,7 @@ ghost use mathlib.Core.Path.{_≡_};
 ghost use Rattle.c_crossing.specs.Crossing.{Crosses};
 ghost use Rattle.c_validate.specs.Answers.{addedCrossed};
 ghost use Rattle.c_validate.specs.Options.{whichOf};
-ghost use Rattle.template_entries.specs.Table.{readTable};
-ghost use Rattle.template_text.specs.Template.{readTemplate};
-ghost use Rattle.template_text.specs.Used.{textUsed};
-ghost use Rattle.template_validate.specs.Validation.{validity, validityRefusal};
-ghost use Rattle.template_walk.specs.Counting.{addedAnswer};
+ghost use Rattle.template_validate.specs.Validation.{validateAnswer, countAnswer, validityRefusal};
 use template_known::Validity;
 use template_text::Which;
 use template_walk::CountAnswer;
@@ -27,11 +23,8 @@ pub extern "C" fn noddrefyr_validate(
     members: &[u32],
     added: &[u8],
 ) -> u32
-    ensures { λ r. ⌜ r ≡
-        validityRefusal
-        (validity (readTable (now (entries .entry)) (now (members .entry)) (now (added .entry)))
-        (readTemplate (textUsed «single_set» (now (single .entry)) Which.Single))
-        (readTemplate (textUsed «pair_set» (now (pair .entry)) Which.Pair))) ⌝ }
+    ensures { λ r. ⌜ r ≡ validityRefusal (validateAnswer «single_set» (now (single .entry)) «pair_set» (now (pair .entry))
+        (now (entries .entry)) (now (members .entry)) (now (added .entry))) ⌝ }
 {
     let found = template_validate::validate(
         single_set,
@@ -67,9 +60,8 @@ pub extern "C" fn noddrefyr_count_added(
     count: &mut u64,
 ) -> u32
     ensures { λ r. ⌜ Crosses
-        (addedCrossed (now (count .entry) ∷ [])
-        (addedAnswer (readTable (now (entries .entry)) (now (members .entry)) (now (added .entry)))
-        (readTemplate (textUsed set (now (text .entry)) (whichOf «is_pair»)))))
+        (addedCrossed (now (count .entry) ∷ []) (countAnswer set (now (text .entry)) (whichOf «is_pair») (now (entries .entry))
+        (now (members .entry)) (now (added .entry))))
         r (now (count .exit) ∷ []) ⌝ }
 {
     let which = which_of(is_pair);

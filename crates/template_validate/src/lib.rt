@@ -1,10 +1,6 @@
 // Checking a pair of templates against a special table, and counting the tokens that a template adds (document 01, module 8).
 ghost use mathlib.Core.Path.{_≡_};
-ghost use Rattle.template_entries.specs.Table.{readTable};
-ghost use Rattle.template_text.specs.Template.{readTemplate};
-ghost use Rattle.template_text.specs.Used.{textUsed};
-ghost use Rattle.template_validate.specs.Validation.{validity};
-ghost use Rattle.template_walk.specs.Counting.{addedAnswer};
+ghost use Rattle.template_validate.specs.Validation.{validateAnswer, countAnswer};
 use record::Refusal;
 use template_known::Validity;
 use template_table::TableAnswer;
@@ -23,9 +19,8 @@ pub fn validate(
     members: &[u32],
     added: &[u8],
 ) -> Validity
-    ensures { λ r. ⌜ r ≡ validity (readTable (now (entries .entry)) (now (members .entry)) (now (added .entry)))
-        (readTemplate (textUsed «single_set» (now (single .entry)) Which.Single))
-        (readTemplate (textUsed «pair_set» (now (pair .entry)) Which.Pair)) ⌝ }
+    ensures { λ r. ⌜ r ≡ validateAnswer «single_set» (now (single .entry)) «pair_set» (now (pair .entry)) (now (entries .entry))
+        (now (members .entry)) (now (added .entry)) ⌝ }
 {
     let table = template_table::check_table(entries, members, added);
     if let TableAnswer::Refused(why) = table {
@@ -61,8 +56,8 @@ pub fn count_added(
     members: &[u32],
     added: &[u8],
 ) -> CountAnswer
-    ensures { λ r. ⌜ r ≡ addedAnswer (readTable (now (entries .entry)) (now (members .entry)) (now (added .entry)))
-        (readTemplate (textUsed set (now (text .entry)) which)) ⌝ }
+    ensures { λ r. ⌜ r ≡ countAnswer set (now (text .entry)) which (now (entries .entry)) (now (members .entry))
+        (now (added .entry)) ⌝ }
 {
     let table = template_table::check_table(entries, members, added);
     if let TableAnswer::Refused(why) = table {
