@@ -15,9 +15,7 @@ use Rattle.record.specs.declared.Written.the-variants.{Done}
 use Rattle.record.proofs.Outcome.{writes-done, room-lengths}
 use Rattle.join_trees.specs.Join.{fold}
 use Rattle.join_trees.specs.Offsets.{mostOffset}
-use Rattle.join_trees.specs.Outcomes.{foldInto}
 use Rattle.join_trees.proofs.Folds.{fold-fine}
-use Rattle.join_trees.proofs.Outcomes.{fold-no-room, fold-done}
 use Rattle.record_room.specs.Room.{hasRoom}
 use Rattle.join_levels_stored.specs.Contracts.{EncodingAt}
 use Rattle.record.specs.declared.Spot.{Spot}
@@ -27,7 +25,9 @@ use Rattle.record.specs.Working.{WritesWith, Zeroed}
 use Rattle.join_size.proofs.Sizes.{roomy-takes, roomy-room, not-roomy}
 use Rattle.record.proofs.Working.{with-done}
 use Rattle.process_steps.specs.declared.Step.{Step}
+use Rattle.process_steps.specs.Applied.{foldedInto}
 use Rattle.process_steps.specs.Steps.{stepEncoding}
+use Rattle.process_steps.proofs.Folded.{folded-no-room, folded-done}
 use Rattle.process_sizes.specs.Contracts.{SecondStands, StepsOf}
 use Rattle.process_steps.specs.Standing.{SecondHere, StepsHere}
 use Rattle.process_apply.specs.Contracts.{Ready}
@@ -60,21 +60,21 @@ module _ {nodes rows : List ℕ} {s : Spot} {entries members numbers : List ℕ}
   all = map (stepEncoding entries members E second) steps
 
   module _ (out out′ working working′ : List ℕ) {size : Size} (sized : Sizes (fold false all) size) where
-    pub outcome-no-room : hasRoom size (length out) (length out′) ≡ false → foldInto false all out out′ working working′ ≡ refused NoRoom
-    outcome-no-room e = fold-no-room false out out′ working working′ all (λ r _. not-roomy sized out out′ e r)
+    pub outcome-no-room : hasRoom size (length out) (length out′) ≡ false → foldedInto all out out′ working working′ ≡ refused NoRoom
+    outcome-no-room e = folded-no-room out out′ working working′ all (λ r _. not-roomy sized out out′ e r)
 
-    pub outcome-no-working : hasRoom size (length working) (length working′) ≡ false → foldInto false all out out′ working working′ ≡ refused NoRoom
-    outcome-no-working e = fold-no-room false out out′ working working′ all (λ _ r. not-roomy sized working working′ e r)
+    pub outcome-no-working : hasRoom size (length working) (length working′) ≡ false → foldedInto all out out′ working working′ ≡ refused NoRoom
+    outcome-no-working e = folded-no-room out out′ working working′ all (λ _ r. not-roomy sized working working′ e r)
 
     module _ (e : hasRoom size (length out) (length out′) ≡ true) where
       pub steps-ready : hasRoom size (length working) (length working′) ≡ true → ((k : ℕ) → getD rows k 0 ≤ mostOffset) → Ready nodes rows s entries members numbers count out out′ working working′ E second steps
       steps-ready e′ known = record { steps-here = h; within = steps-fit entries members (h .inputs) known steps (h .fine); room = roomy-room sized out out′ e; working-room = roomy-room sized working working′ e′ }
 
       pub steps-done : {out₁ out₁′ working₁ working₁′ : List ℕ} → Ready nodes rows s entries members numbers count out out′ working working′ E second steps → Put (fold false all ∷ []) out 0 out′ 0 out₁ out₁′ → Zeroed working working′ working₁ working₁′
-          → WritesWith (foldInto false all out out′ working working′) (Done (size .nodes) (size .rows)) out out′ working working′ out₁ out₁′ working₁ working₁′
+          → WritesWith (foldedInto all out out′ working working′) (Done (size .nodes) (size .rows)) out out′ working working′ out₁ out₁′ working₁ working₁′
       steps-done r put zero =
           let F = forest (fold false all ∷ []) in
-          let done = fold-done false out out′ working working′ all (r .room) (r .working-room) (r .within) in
+          let done = folded-done out out′ working working′ all (r .room) (r .working-room) in
           let fine : Fine F = fold-fine false all (steps-fine entries members (h .inputs) steps (h .fine)) in
           let l = room-lengths fine (r .room) in
           let k = roomy-takes sized out out′ e in

@@ -12,9 +12,9 @@ use Rattle.record.specs.declared.Spot.{Spot}
 use Rattle.record.specs.declared.Written.{Written}
 use Rattle.join_trees.specs.Join.{fold}
 use Rattle.join_trees.specs.Offsets.{foldFits}
-use Rattle.join_trees.specs.Outcomes.{foldInto}
 use Rattle.record.specs.Working.{WritesWith}
 use Rattle.process_steps.specs.declared.Step.{Step}
+use Rattle.process_steps.specs.Applied.{foldedInto}
 use Rattle.process_steps.specs.Steps.{stepEncoding}
 use Rattle.process_steps.specs.Standing.{StepsHere}
 
@@ -48,4 +48,4 @@ pub record AskApply (nodes rows : List ℕ) (s : Spot) (entries members numbers 
 -- whatever the steps speak of, "the pieces are folded without growing", or refused with 2
 abbrev pub Applies : List ℕ → List ℕ → Spot → List ℕ → List ℕ → List ℕ → ℕ → Written → List ℕ → List ℕ → List ℕ → List ℕ → List ℕ → List ℕ → List ℕ → List ℕ → Type 0
 Applies nodes rows s entries members numbers count answer out out′ working working′ out₁ out₁′ working₁ working₁′ =
-    (E : Encoding) (second : Option Encoding) (steps : List Step) → StepsHere nodes rows s entries members numbers count E second steps → WritesWith (foldInto false (map (stepEncoding entries members E second) steps) out out′ working working′) answer out out′ working working′ out₁ out₁′ working₁ working₁′
+    (E : Encoding) (second : Option Encoding) (steps : List Step) → StepsHere nodes rows s entries members numbers count E second steps → WritesWith (foldedInto (map (stepEncoding entries members E second) steps) out out′ working working′) answer out out′ working working′ out₁ out₁′ working₁ working₁′

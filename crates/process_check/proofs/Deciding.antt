@@ -21,7 +21,6 @@ use Rattle.template_parts.specs.Parts.{parts}
 use Rattle.template_pieces.specs.Piece.{Piece}
 use Rattle.template_text.specs.Template.{TemplateReading, unread, reads, short, ofPieces, readParts, readTemplate}
 use Rattle.template_entries.specs.Table.{Special, Table, faulty, sound, wellMade, agrees, entriesIn, specialOf, membersIn, readTable}
-use Rattle.join_trees.specs.Outcomes.{foldInto}
 use Rattle.template_text.specs.declared.Which.{Which}
 use Rattle.template_text.specs.declared.Which.the-variants.{Single, Pair}
 use Rattle.template_text.specs.Used.{textUsed}
@@ -29,7 +28,7 @@ use Rattle.template_known.specs.declared.Validity.{Validity}
 use Rattle.template_known.specs.declared.Validity.the-variants.{Valid, Refused}
 use Rattle.template_walk.specs.Sequences.{isB, someOk}
 use Rattle.template_known.specs.Known.{known, knownAnswer}
-use Rattle.process_steps.specs.Applied.{applied}
+use Rattle.process_steps.specs.Applied.{applied, foldedInto}
 use Rattle.process_steps.specs.Standing.{Inputs}
 use Rattle.process_plan.specs.Contracts.{Plans}
 use Rattle.process_plan.specs.declared.PlanAnswer.{PlanAnswer}
@@ -86,7 +85,7 @@ module _ (E : Encoding) (second : Option Encoding) (table : List Special) (add :
   outcome r a b c d = withTable (sound table) r (λ specials pieces. applyInto specials add E second pieces a b c d)
 
   abbrev folded : List Piece → List ℕ → List ℕ → List ℕ → List ℕ → Outcome
-  folded pieces a b c d = foldInto false (flatMap (applied table add E second) pieces) a b c d
+  folded pieces a b c d = foldedInto (flatMap (applied table add E second) pieces) a b c d
 
   -- a template that fails is refused
   pub unusable : (text : List ℕ) {k : Refusal} → usability table (hasSecond second) add (readTemplate text) ≡ Refused k → RefusedBy (outcome (readTemplate text)) k
@@ -162,5 +161,5 @@ module _ (t : Table) (template : Which → TemplateReading) (add : Bool) where
               second = second;
               steps = p .planned;
               steps-here = record { inputs = inputs; numbered = p .numbers; counted = e; few = omega (arith, p .few); fine = p .fine second (w .has-second) };
-              folded = λ a b c d. comes-to a b c d ∙ o a b c d ∙ ap (λ (l : List Encoding). foldInto false l a b c d) (sym (p .made E second (w .has-second)));
+              folded = λ a b c d. comes-to a b c d ∙ o a b c d ∙ ap (λ (l : List Encoding). foldedInto l a b c d) (sym (p .made E second (w .has-second)));
             }

@@ -17,7 +17,6 @@ use Rattle.record.specs.declared.Spot.{Spot}
 use Rattle.template_pieces.specs.Piece.{Piece}
 use Rattle.template_text.specs.Template.{TemplateReading, unread, reads, readTemplate}
 use Rattle.template_entries.specs.Table.{Special, sound, readTable}
-use Rattle.join_trees.specs.Outcomes.{foldInto}
 use Rattle.template_walk.specs.declared.SequencesAnswer.{SequencesAnswer}
 use Rattle.template_walk.specs.declared.SequencesAnswer.the-variants.{Refused as Unnamed, Named}
 use Rattle.template_known.specs.declared.Validity.{Validity}
@@ -25,7 +24,7 @@ use Rattle.template_known.specs.declared.Validity.the-variants.{Valid, Refused}
 use Rattle.template_walk.specs.Sequences.{isB, someOk}
 use Rattle.template_known.specs.Known.{known, knownAnswer}
 use Rattle.process_steps.specs.declared.Step.{Step}
-use Rattle.process_steps.specs.Applied.{lacksSecond}
+use Rattle.process_steps.specs.Applied.{lacksSecond, foldedInto}
 use Rattle.process_steps.specs.Steps.{stepEncoding}
 use Rattle.process_steps.specs.Standing.{Inputs, StepsHere}
 use Rattle.process_check.specs.declared.Decision.{Decision}
@@ -44,7 +43,7 @@ pub record TakenBy (outcome : List ℕ → List ℕ → List ℕ → List ℕ �
   pub second : Option Encoding
   pub steps : List Step
   pub steps-here : StepsHere nodes rows s entries members numbers count E second steps
-  pub folded : (out out′ working working′ : List ℕ) → outcome out out′ working working′ ≡ foldInto false (map (stepEncoding entries members E second) steps) out out′ working working′
+  pub folded : (out out′ working working′ : List ℕ) → outcome out out′ working working′ ≡ foldedInto (map (stepEncoding entries members E second) steps) out out′ working working′
 
 abbrev pub Decides : (List ℕ → List ℕ → List ℕ → List ℕ → Outcome) → List ℕ → List ℕ → List ℕ → List ℕ → List ℕ → Decision → Type 0
 Decides outcome nodes rows entries members numbers (RefusedWith k) = RefusedBy outcome k

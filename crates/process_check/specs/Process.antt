@@ -1,6 +1,6 @@
 -- `process` with a template (document 01, module 9, and "When an operation refuses").
 -- Assumes nothing: these are definitions.
-use mathlib.Core.Bool.{Bool, false, _&&_, not, cond}
+use mathlib.Core.Bool.{Bool, _&&_, not, cond}
 use mathlib.Core.Option.{Option, none as nothing, some}
 use mathlib.Core.List.{List, flatMap}
 use Prim.Native.Nat.{ℕ}
@@ -11,12 +11,11 @@ use Rattle.record.specs.declared.Refusal.the-variants.{MalformedRecord, Special
 use Rattle.template_text.specs.Template.{TemplateReading, unread, reads, readTemplate}
 use Rattle.template_pieces.specs.Piece.{Piece}
 use Rattle.template_entries.specs.Table.{Special, Table, faulty, sound, readTable}
-use Rattle.join_trees.specs.Outcomes.{foldInto}
 use Rattle.template_text.specs.declared.Which.{Which}
 use Rattle.template_text.specs.declared.Which.the-variants.{Single, Pair}
 use Rattle.template_text.specs.Used.{textUsed}
 use Rattle.template_known.specs.Known.{known}
-use Rattle.process_steps.specs.Applied.{applied, lacksSecond}
+use Rattle.process_steps.specs.Applied.{applied, lacksSecond, foldedInto}
 
 -- which template is used: the pair's for two encodings
 abbrev pub whichFor : Option Encoding → Which
@@ -34,7 +33,7 @@ unfoldable pub applyInto : List Special → Bool → Encoding → Option Encodin
 applyInto table add E second pieces nodes rows working-nodes working-rows =
     cond (lacksSecond second pieces) (refused BWithoutSecond)
     (cond (add && not (allOk (known table) pieces)) (refused SpecialIdUnknown)
-    (foldInto false (flatMap (applied table add E second) pieces) nodes rows working-nodes working-rows))
+    (foldedInto (flatMap (applied table add E second) pieces) nodes rows working-nodes working-rows))
 
 -- "15, 12, 8, 7 (the template used)"
 unfoldable pub withTable : Table → TemplateReading → (List Special → List Piece → Outcome) → Outcome

@@ -4,7 +4,10 @@ use mathlib.Core.Bool.{Bool, false, cond}
 use mathlib.Core.Option.{Option, none as nothing, some}
 use mathlib.Core.List.{List, [], _∷_}
 use Prim.Native.Nat.{ℕ}
-use Rattle.record.specs.Tree.{Encoding}
+use Rattle.record.specs.Tree.{Encoding, forest}
+use Rattle.record.specs.Outcome.{Outcome, inRoom}
+use Rattle.join_trees.specs.Join.{fold}
+use Rattle.join_trees.specs.Outcomes.{andThen}
 use Rattle.template_pieces.specs.Piece.{Piece, sequenceA, sequenceB, special}
 use Rattle.template_entries.specs.Table.{Special}
 use Rattle.template_find.specs.Last.{lastWith}
@@ -38,3 +41,9 @@ applied table add E second (special start id t) = cond add (ofSpecial t (lastWit
 abbrev pub lacksSecond : Option Encoding → List Piece → Bool
 lacksSecond nothing pieces = someOk isB pieces
 lacksSecond (some F) pieces = false
+
+-- "the pieces are folded without growing": no offset moves, so that of what a fold is refused for only 2 is left
+-- (`folded-still` of proofs/Folded ties it to the fold of module 5). The encodings Ps folded, into an output of the first two
+-- lists, with a working store of the last two.
+unfoldable pub foldedInto : List Encoding → List ℕ → List ℕ → List ℕ → List ℕ → Outcome
+foldedInto Ps nodes rows working-nodes working-rows = andThen (inRoom nodes rows (forest (fold false Ps ∷ []))) (inRoom working-nodes working-rows)
