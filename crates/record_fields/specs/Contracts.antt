@@ -30,6 +30,11 @@ NodesFine xs = (i : ℕ) → i * nodeWidth + nodeWidth ≤ length xs → NodeAt 
 abbrev pub RowOk : ℕ → ℕ → ℕ → Type 0
 RowOk pool mark word = (pool ≤ 1) × (((mark ≡ 0) × (word ≡ 0)) ⊎ (mark ≡ 1))
 
+-- u is the word where the mark is not 1, else 0
+pub record Unmarked (mark word u : ℕ) : Type 0 where
+  pub marked : mark ≡ 1 → u ≡ 0
+  pub other : (mark ≡ 1 → ⊥) → u ≡ word
+
 abbrev pub RowAt : List ℕ → ℕ → Type 0
 RowAt rs j = RowOk (getD rs (j + 2) 0) (getD rs (j + 5) 0) (getD rs (j + 6) 0)
 

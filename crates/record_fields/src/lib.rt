@@ -3,7 +3,7 @@
 ghost use Prim.Native.Nat.{_+_, _≤_};
 ghost use lib.ListN.{length};
 ghost use Rattle.record.specs.Flat.{nodeWidth};
-ghost use Rattle.record_fields.specs.Contracts.{RangeOk, NodeAt, NodeFits, RowOk, RowsFine, Decides};
+ghost use Rattle.record_fields.specs.Contracts.{RangeOk, NodeAt, NodeFits, Unmarked, RowsFine, Decides};
 use record::Column;
 use record::Encoding;
 
@@ -60,40 +60,32 @@ fn node_ok(nodes: &[u32], i: usize) -> bool
     true
 }
 
-// A pool that there is, and a word that is marked or 0.
-fn row_ok(pool: u32, mark: u32, word: u32) -> bool
-    ensures { λ r. ⌜ Decides r (RowOk pool mark word) ⌝ }
+// A word that stands where none is marked, else 0.
+fn unmarked(mark: u32, word: u32) -> u32
+    ensures { λ r. ⌜ Unmarked mark word r ⌝ }
 {
-    if pool <= 1 {
-        if mark == 1 {
-            return true;
-        }
-        if mark == 0 {
-            if word == 0 {
-                return true;
-            }
-        }
-    }
-    false
+    if mark == 1 { 0 } else { word }
 }
 
-// The pool and the word of every row.
+// The pool and the word of every row. No branch depends on a row: pools and marks, of which each is 0 or 1, are put
+// together bit by bit, and so are the words that no mark goes with, of which each is 0.
 pub fn rows_ok(rows: &[u32]) -> bool
     ensures { λ r. ⌜ Decides r (RowsFine (now (rows .entry))) ⌝ }
 {
+    let count = rows.len() / Encoding::ROW_WIDTH;
     let mut i: usize = 0;
     let mut at: usize = 0;
-    while rows.len() - at >= Encoding::ROW_WIDTH {
-        if row_ok(
-            rows[at + Column::POOL],
-            rows[at + Column::WORD_MARK],
-            rows[at + Column::WORD],
-        ) {
-            i += 1;
-            at += Encoding::ROW_WIDTH;
-        } else {
-            return false;
-        }
+    let mut marks: u32 = 0;
+    let mut words: u32 = 0;
+    while i < count {
+        let mark = rows[at + Column::WORD_MARK];
+        marks = marks | rows[at + Column::POOL] | mark;
+        words = words | unmarked(mark, rows[at + Column::WORD]);
+        i += 1;
+        at += Encoding::ROW_WIDTH;
     }
-    true
+    if words == 0 {
+        return marks <= 1;
+    }
+    false
 }

@@ -1,58 +1,51 @@
--- `rows_ok` decides whether the marks of every whole row are fine: those of the rows before i are. Assumes nothing.
-use mathlib.Core.Path.{_≡_, refl, sym, subst}
-use Prim.Native.Nat.{ℕ, _-_, _*_, _≤_, _<_}
+-- `rows_ok` decides whether the marks of every whole row are fine: those of the rows before i are judged. Assumes nothing.
+use mathlib.Core.Path.{_≡_, refl}
+use Prim.Native.Nat.{_-_, _*_, _≤_}
 use native.Mathlib.Omega.{arith}
-use lib.ListN.{length}
-use denote.Ref.{now}
-use borrow.Author.Count.{below-more}
 use borrow.Author.Needs.{needs}
 use Rattle.record.specs.Flat.{rowWidth}
-use Rattle.record_fields.specs.Contracts.{RowAt}
-use Rattle.record_fields.proofs.Decides.{decided, refuted}
+use Rattle.record_fields.proofs.Together.{Judged, judged-start, judged-more, judged-end, judged-not}
 use Rattle.record_fields.proofs.rows_ok.Statement.{statement}
 use Rattle.record_fields.proofs.rows_ok.Tie as tie
 
 abbrev Inv-loop : tie.InvT-loop
-Inv-loop rows i₀ at₀ i at = (at ≤ length rows) × (at ≡ i * rowWidth) × ((k : ℕ) → k < i → RowAt rows (k * rowWidth))
+Inv-loop rows count i₀ at₀ marks₀ words₀ i at marks words = (i ≤ count) × (at ≡ i * rowWidth) × Judged rows i marks words
 
 abbrev μ-loop : tie.MeasureT-loop
-μ-loop rows i₀ at₀ i at = length rows - at
+μ-loop rows count i₀ at₀ marks₀ words₀ i at marks words = count - i
 
 loop-holds : tie.Need-loop-holds Inv-loop μ-loop
-loop-holds c = (omega arith, refl, λ k h. absurd (omega arith))
+loop-holds c = (omega arith, refl, judged-start _)
 
-sub-loop : tie.Need-sub-loop Inv-loop μ-loop
-sub-loop c = search needs
+add-mark : tie.Need-add-mark Inv-loop μ-loop
+add-mark c = search needs
 
-add-row-ok : tie.Need-add-row-ok Inv-loop μ-loop
-add-row-ok c = search needs
+mul-mark : tie.Need-mul-mark Inv-loop μ-loop
+mul-mark c = search needs
 
-mul-row-ok : tie.Need-mul-row-ok Inv-loop μ-loop
-mul-row-ok c = search needs
+shared-slice-read-mark : tie.Need-shared-slice-read-mark Inv-loop μ-loop
+shared-slice-read-mark c = search needs
 
-shared-slice-read-row-ok : tie.Need-shared-slice-read-row-ok Inv-loop μ-loop
-shared-slice-read-row-ok c = search needs
+add-marks : tie.Need-add-marks Inv-loop μ-loop
+add-marks c = search needs
 
-add-row-ok-2 : tie.Need-add-row-ok-2 Inv-loop μ-loop
-add-row-ok-2 c = search needs
+mul-marks : tie.Need-mul-marks Inv-loop μ-loop
+mul-marks c = search needs
 
-mul-row-ok-2 : tie.Need-mul-row-ok-2 Inv-loop μ-loop
-mul-row-ok-2 c = search needs
+shared-slice-read-marks : tie.Need-shared-slice-read-marks Inv-loop μ-loop
+shared-slice-read-marks c = search needs
 
-shared-slice-read-row-ok-2 : tie.Need-shared-slice-read-row-ok-2 Inv-loop μ-loop
-shared-slice-read-row-ok-2 c = search needs
+add-unmarked : tie.Need-add-unmarked Inv-loop μ-loop
+add-unmarked c = search needs
 
-add-row-ok-3 : tie.Need-add-row-ok-3 Inv-loop μ-loop
-add-row-ok-3 c = search needs
+mul-unmarked : tie.Need-mul-unmarked Inv-loop μ-loop
+mul-unmarked c = search needs
 
-mul-row-ok-3 : tie.Need-mul-row-ok-3 Inv-loop μ-loop
-mul-row-ok-3 c = search needs
+shared-slice-read-unmarked : tie.Need-shared-slice-read-unmarked Inv-loop μ-loop
+shared-slice-read-unmarked c = search needs
 
-shared-slice-read-row-ok-3 : tie.Need-shared-slice-read-row-ok-3 Inv-loop μ-loop
-shared-slice-read-row-ok-3 c = search needs
-
-row-ok-requires : tie.Need-row-ok-requires Inv-loop μ-loop
-row-ok-requires c κs = search needs
+unmarked-requires : tie.Need-unmarked-requires Inv-loop μ-loop
+unmarked-requires c κs = search needs
 
 add-i : tie.Need-add-i Inv-loop μ-loop
 add-i c = search needs
@@ -64,21 +57,13 @@ loop-less : tie.Need-loop-less Inv-loop μ-loop
 loop-less c = search needs
 
 loop-again : tie.Need-loop-again Inv-loop μ-loop
-loop-again c =
-    let l = c .before .before .before .before .before .before in
-    let rows = now (l .before .before .args .rows) in
-    let h = decided (c .before .row-ok .result) (RowAt rows (l .loop .at)) (c .if1 .taken) (c .before .row-ok .ensures) in
-    (omega arith, omega arith, below-more _ _ (l .loop .inv .2) (subst (RowAt rows) (l .loop .inv .1) h))
+loop-again c = let l = c .before .before .before .before .before .loop in (omega arith, omega arith, judged-more (l .inv .2) (l .inv .1) (c .unmarked .ensures))
 
 returns : tie.Need-returns Inv-loop μ-loop
-returns c all =
-    let l = c .before .before .before .before .before .before in
-    let rows = now (l .before .before .args .rows) in
-    refuted (c .before .row-ok .result) (RowAt rows (l .loop .at)) (c .if1 .left) (c .before .row-ok .ensures)
-    (subst (RowAt rows) (sym (l .loop .inv .1)) (all (l .loop .i) (omega arith)))
+returns c = let l = c .before .before in judged-end (l .loop .inv .2) (omega arith) (c .if1 .taken)
 
 returns-2 : tie.Need-returns-2 Inv-loop μ-loop
-returns-2 c k h = c .before .loop .inv .2 k (omega arith)
+returns-2 c = let l = c .before .before in judged-not (l .loop .inv .2) (omega arith) (c .if1 .left)
 
 pub rows-ok-spec : {M : Type 1} → statement M
 rows-ok-spec =
@@ -87,17 +72,16 @@ rows-ok-spec =
     Inv-loop
     μ-loop
     loop-holds
-    sub-loop
-    add-row-ok
-    mul-row-ok
-    shared-slice-read-row-ok
-    add-row-ok-2
-    mul-row-ok-2
-    shared-slice-read-row-ok-2
-    add-row-ok-3
-    mul-row-ok-3
-    shared-slice-read-row-ok-3
-    row-ok-requires
+    add-mark
+    mul-mark
+    shared-slice-read-mark
+    add-marks
+    mul-marks
+    shared-slice-read-marks
+    add-unmarked
+    mul-unmarked
+    shared-slice-read-unmarked
+    unmarked-requires
     add-i
     add-at
     loop-less
