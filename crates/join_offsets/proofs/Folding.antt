@@ -20,7 +20,8 @@ use Rattle.record_extent.specs.Size.{sizeOf, Stands}
 use Rattle.join_trees.specs.Join.{join}
 use Rattle.join_trees.specs.Offsets.{mostOffset, joinFits, stepsFit, foldFits}
 use Rattle.join_trees.proofs.Offsets.{OffsetsFit, tells-offsets}
-use Rattle.join_offsets.specs.Reach.{largestOffset, largest, largestBase, RowsFrom, NodesFrom}
+use Rattle.join_reach.specs.Reach.{largestOffset, largest, largestBase}
+use Rattle.join_reach.specs.Contracts.{RowsFrom, NodesFrom}
 use Rattle.join_offsets.proofs.Joined.{base-fits, base-joins, join-fits-growing}
 use Rattle.join_offsets.proofs.Given.{stores-here, nodes-from, rows-from, here-stands}
 

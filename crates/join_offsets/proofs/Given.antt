@@ -14,7 +14,8 @@ use Rattle.record.proofs.Flat.{length-nodes, length-rows}
 use Rattle.record.proofs.Standing.{at-top}
 use Rattle.record.proofs.Walk.{flat-rows, length-all-rows}
 use Rattle.record_extent.specs.Size.{Stands}
-use Rattle.join_offsets.specs.Reach.{largestOffset, largest, RowsFrom, NodesFrom}
+use Rattle.join_reach.specs.Reach.{largestOffset, largest}
+use Rattle.join_reach.specs.Contracts.{RowsFrom, NodesFrom}
 
 -- ---- The largest offset of all rows
 

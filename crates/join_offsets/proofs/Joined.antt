@@ -16,7 +16,7 @@ use Rattle.join_trees.specs.Offsets.{mostOffset, joinFits, MovedWithin}
 use Rattle.join_trees.proofs.Rows.{base-join}
 use Rattle.join_trees.proofs.Each.{Each, each-imp, join-each, join-pairs}
 use Rattle.join_trees.proofs.Offsets.{RowFits, RowsFit, OffsetsFit, tells-offsets, rows-fit, rows-fit-left, rows-fit-right}
-use Rattle.join_offsets.specs.Reach.{largestOffset, largest, largestBase}
+use Rattle.join_reach.specs.Reach.{largestOffset, largest, largestBase}
 use Rattle.join_offsets.proofs.Largest.{largest-le, le-largest, largest-pair}
 
 -- ---- The rows of one encoding

@@ -5,7 +5,7 @@ use native.Mathlib.Omega.{arith}
 use mathlib.Core.List.{List, [], _∷_}
 use Rattle.record.specs.Tree.{Row, Forest, none, node, Encoding, forest}
 use Rattle.join_trees.proofs.Each.{Each, each-imp}
-use Rattle.join_offsets.specs.Reach.{largest}
+use Rattle.join_reach.specs.Reach.{largest}
 
 module _ (number : List Row → ℕ) (k : ℕ) where
   pub largest-le : (f : Forest) → Each (λ r q. number r ≤ k) f → largest number f ≤ k

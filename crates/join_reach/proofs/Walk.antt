@@ -12,7 +12,8 @@ use Rattle.record.specs.WellFormed.{Fine, nodesIn}
 use Rattle.record.proofs.Flat.{length-nodes, length-rows}
 use Rattle.record.proofs.Standing.{at-size, at-after-node, at-after-rows}
 use Rattle.join_trees.specs.Join.{lastEnd}
-use Rattle.join_offsets.specs.Reach.{largest, largestBase, RowsFrom, NodesFrom}
+use Rattle.join_reach.specs.Reach.{largest, largestBase}
+use Rattle.join_reach.specs.Contracts.{RowsFrom, NodesFrom}
 
 -- ---- One forest after another
 

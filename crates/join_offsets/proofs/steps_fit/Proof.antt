@@ -1,40 +1,34 @@
--- `fold_fits` tells whether each step fits: the loop joins one encoding more, and the first that does not fit decides.
+-- `steps_fit` tells whether each step fits: the loop joins one encoding more, and the first that does not fit decides.
 -- Assumes nothing.
 use borrow.Author.Needs.{needs}
-use borrow.Author.Tests.{not-true, not-false}
 use native.Mathlib.Omega.{arith}
 use Prim.Native.Nat.{ℕ, _+_, _*_, _-_, _≤_, _<_}
-use mathlib.Core.Path.{_≡_, sym, ap, subst, _∙_}
-use mathlib.Core.Bool.{Bool}
+use mathlib.Core.Path.{_≡_, _∙_}
 use mathlib.Core.List.{List, [], _∷_}
 use lib.ListN.{length}
 use denote.Ref.{now}
-use Rattle.record.specs.Tree.{Forest, forest, listed}
+use Rattle.record.specs.Tree.{Forest, forest}
 use Rattle.record.specs.Flat.{rowWidth, nodeWidth}
 use Rattle.record.specs.WellFormed.{Stores}
 use Rattle.record.specs.Walk.{allRows}
-use Rattle.record.proofs.Tree.{forest-listed}
 use Rattle.record_extent.specs.Size.{sizeOf}
-use Rattle.join_trees.specs.Offsets.{foldFits}
-use Rattle.join_trees.proofs.Offsets.{OffsetsFit, fold-fits-still}
-use Rattle.join_offsets.specs.Reach.{largestOffset, largest}
-use Rattle.join_offsets.proofs.Known.{stored-fits}
+use Rattle.join_reach.specs.Reach.{largestOffset, largest}
 use Rattle.join_offsets.proofs.Given.{offset-all}
 use Rattle.join_offsets.proofs.Folding.{Folded, folded-start, folded-small, Next, next, next-stands, next-nodes, next-rows, next-there, folded-stop, folded-more, folded-end}
-use Rattle.join_offsets.proofs.fold_fits.Statement.{statement}
-use Rattle.join_offsets.proofs.fold_fits.Tie as tie
+use Rattle.join_offsets.proofs.steps_fit.Statement.{statement}
+use Rattle.join_offsets.proofs.steps_fit.Tie as tie
 
 abbrev Inv-loop : tie.InvT-loop
-Inv-loop nodes rows growing base₀ i₀ j₀ base i j = (f : Forest) → Stores nodes rows f → Folded nodes rows f base i j
+Inv-loop nodes rows base₀ i₀ j₀ base i j = (f : Forest) → Stores nodes rows f → Folded nodes rows f base i j
 
 abbrev μ-loop : tie.MeasureT-loop
-μ-loop nodes rows growing base₀ i₀ j₀ base i j = length nodes - i
+μ-loop nodes rows base₀ i₀ j₀ base i j = length nodes - i
 
 abbrev Nodes : tie.At-loop Inv-loop μ-loop → List ℕ
-Nodes c = now (c .before .before .before .before .args .nodes)
+Nodes c = now (c .before .before .before .args .nodes)
 
 abbrev Rows : tie.At-loop Inv-loop μ-loop → List ℕ
-Rows c = now (c .before .before .before .before .args .rows)
+Rows c = now (c .before .before .before .args .rows)
 
 -- in the loop an encoding is next
 abbrev Ahead : tie.At-loop Inv-loop μ-loop → Forest → Type 0
@@ -44,8 +38,8 @@ ahead : (c : tie.In-loop Inv-loop μ-loop) (f : Forest) → Stores (Nodes (c .be
 ahead c f h = next (c .before .loop .inv f h) (c .loop-test .taken)
 
 -- that of the batch that is known to be stored
-abbrev known : (c : tie.In-loop Inv-loop μ-loop) → Ahead (c .before) (c .before .before .before .before .before .pre .0)
-known c = let a = c .before .before .before .before .before .pre in ahead c (a .0) (a .1)
+abbrev known : (c : tie.In-loop Inv-loop μ-loop) → Ahead (c .before) (c .before .before .before .before .pre .0)
+known c = let a = c .before .before .before .before .pre in ahead c (a .0) (a .1)
 
 -- its size, and its largest offset
 measured : (c : tie.After-measure Inv-loop μ-loop) {f : Forest} (n : Ahead (c .before .before) f) → c .measure .result ≡ sizeOf (forest (n .E ∷ []))
@@ -60,11 +54,6 @@ there : (c : tie.After-measure Inv-loop μ-loop) →
     (0 < s .nodes) × (l .loop .i + s .nodes * nodeWidth ≤ length (Nodes l)) × (l .loop .j + s .rows * rowWidth ≤ length (Rows l))
 there c = let n = known (c .before) in next-there n (measured c n)
 
-returns : tie.Need-returns Inv-loop μ-loop
-returns c = λ f h.
-    let fits : OffsetsFit f = stored-fits h (λ i. omega (arith, c .before .shared-slice-known2 .given i)) in
-    sym (ap (λ (g : Bool). foldFits g (listed f)) (not-true _ (c .if1 .taken)) ∙ fold-fits-still (listed f) (subst OffsetsFit (sym (forest-listed f)) fits))
-
 loop-holds : tie.Need-loop-holds Inv-loop μ-loop
 loop-holds c = λ f h. folded-start h
 
@@ -77,14 +66,13 @@ largest-offset-requires c κs = let n = known (c .before) in (allRows (forest (n
 wide-requires : tie.Need-wide-requires Inv-loop μ-loop
 wide-requires c κs = search needs
 
-add-if2 : tie.Need-add-if2 Inv-loop μ-loop
-add-if2 c = omega (arith, folded-small (known (c .before .before .before) .folded), c .wide .ok)
+add-if1 : tie.Need-add-if1 Inv-loop μ-loop
+add-if1 c = omega (arith, folded-small (known (c .before .before .before) .folded), c .wide .ok)
 
-returns-2 : tie.Need-returns-2 Inv-loop μ-loop
-returns-2 c = λ f h.
-    let l = c .before .before .before .before in
-    let n = ahead l f h in
-    folded-stop n (omega (arith, c .if2 .taken, offset (c .before) n)) ∙ sym (ap (λ (g : Bool). foldFits g (listed f)) (not-false _ (l .before .before .if1 .left)))
+returns : tie.Need-returns Inv-loop μ-loop
+returns c = λ f h.
+    let n = ahead (c .before .before .before .before) f h in
+    folded-stop n (omega (arith, c .if1 .taken, offset (c .before) n))
 
 largest-base-requires : tie.Need-largest-base-requires Inv-loop μ-loop
 largest-base-requires c κs =
@@ -120,24 +108,23 @@ loop-again c = λ f h.
     let m = b .before .before .before .before in
     let n = ahead (m .before) f h in
     let e = measured m n in
-    folded-more n e (w .wide2 .ensures ∙ b .largest-base .ensures (forest (n .E ∷ [])) (next-nodes n e)) (omega (arith, b .before .if2 .left, offset (b .before .before) n))
+    folded-more n e (w .wide2 .ensures ∙ b .largest-base .ensures (forest (n .E ∷ [])) (next-nodes n e)) (omega (arith, b .before .if1 .left, offset (b .before .before) n))
 
-returns-3 : tie.Need-returns-3 Inv-loop μ-loop
-returns-3 c = λ f h. folded-end (c .before .loop .inv f h) (c .loop-test .left) ∙ sym (ap (λ (g : Bool). foldFits g (listed f)) (not-false _ (c .before .before .if1 .left)))
+returns-2 : tie.Need-returns-2 Inv-loop μ-loop
+returns-2 c = λ f h. folded-end (c .before .loop .inv f h) (c .loop-test .left)
 
-pub fold-fits-spec : {M : Type 1} → statement M
-fold-fits-spec =
+pub steps-fit-spec : {M : Type 1} → statement M
+steps-fit-spec =
     tie.close
     (tie.spec
     Inv-loop
     μ-loop
-    returns
     loop-holds
     measure-requires
     largest-offset-requires
     wide-requires
-    add-if2
-    returns-2
+    add-if1
+    returns
     largest-base-requires
     wide-requires-2
     add-base
@@ -147,4 +134,4 @@ fold-fits-spec =
     add-j
     loop-less
     loop-again
-    returns-3)
+    returns-2)

@@ -10,10 +10,10 @@ use denote.Ref.{now}
 use Rattle.record.specs.Tree.{Forest}
 use Rattle.record.specs.Flat.{rowWidth, nodeWidth}
 use Rattle.join_trees.specs.Join.{lastEnd}
-use Rattle.join_offsets.specs.Reach.{RowsFrom, NodesFrom}
-use Rattle.join_offsets.proofs.Walk.{Walked, Turn, walked-start, walked-turn, walked-end}
-use Rattle.join_offsets.proofs.largest_base.Statement.{statement}
-use Rattle.join_offsets.proofs.largest_base.Tie as tie
+use Rattle.join_reach.specs.Contracts.{RowsFrom, NodesFrom}
+use Rattle.join_reach.proofs.Walk.{Walked, Turn, walked-start, walked-turn, walked-end}
+use Rattle.join_reach.proofs.largest_base.Statement.{statement}
+use Rattle.join_reach.proofs.largest_base.Tie as tie
 
 abbrev Inv-loop : tie.InvT-loop
 Inv-loop nodes i count rows j left₀ node₀ row₀ largest₀ left node row largest = (f : Forest) → NodesFrom nodes rows i j count f → Walked nodes rows f left node row largest

@@ -9,10 +9,10 @@ use lib.ListN.{length}
 use denote.Ref.{now}
 use Rattle.record.specs.Tree.{Row}
 use Rattle.record.specs.Flat.{rowWidth}
-use Rattle.join_offsets.specs.Reach.{RowsFrom}
-use Rattle.join_offsets.proofs.Rows.{Scanned, rows-long, scanned-start, scanned-turn, scanned-end}
-use Rattle.join_offsets.proofs.largest_offset.Statement.{statement}
-use Rattle.join_offsets.proofs.largest_offset.Tie as tie
+use Rattle.join_reach.specs.Contracts.{RowsFrom}
+use Rattle.join_reach.proofs.Rows.{Scanned, rows-long, scanned-start, scanned-turn, scanned-end}
+use Rattle.join_reach.proofs.largest_offset.Statement.{statement}
+use Rattle.join_reach.proofs.largest_offset.Tie as tie
 
 abbrev Inv-loop : tie.InvT-loop
 Inv-loop rows j count left₀ row₀ largest₀ left row largest = (R : List Row) → RowsFrom rows j count R → Scanned rows R left row largest

@@ -5,9 +5,9 @@ use lib.ListN.{length}
 use denote.Ref.{now}
 use Rattle.record.specs.Flat.{rowWidth}
 use borrow.Author.Needs.{needs}
-use Rattle.join_offsets.proofs.Rows.{rows-long, last-end-none, last-end-stored}
-use Rattle.join_offsets.proofs.last_end.Statement.{statement}
-use Rattle.join_offsets.proofs.last_end.Tie as tie
+use Rattle.join_reach.proofs.Rows.{rows-long, last-end-none, last-end-stored}
+use Rattle.join_reach.proofs.last_end.Statement.{statement}
+use Rattle.join_reach.proofs.last_end.Tie as tie
 
 -- all of them fit
 fits : (c : tie.Else1) → c .before .args .j + c .before .args .count * rowWidth ≤ length (now (c .before .args .rows))
