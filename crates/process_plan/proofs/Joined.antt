@@ -22,6 +22,7 @@ use Rattle.template_find.proofs.Found.{missing, found-among, found-is}
 use Rattle.process_steps.specs.declared.Step.{Step}
 use Rattle.process_steps.specs.Applied.{ofSpecial, applied, lacksSecond}
 use Rattle.process_steps.specs.Steps.{stepEncoding, StepFine}
+use Rattle.process_steps.proofs.Seen.{seen-piece}
 use Rattle.process_plan.specs.Contracts.{specialStep}
 use Rattle.process_plan.proofs.Piece.{listed, stepsOf}
 
@@ -99,12 +100,12 @@ module _ {entries members added : List ℕ} {table : List Special} (h : TableHol
 
   module _ (E : Encoding) where
     piece-made : (add : Bool) (p : Piece) → lacksSecond second (p ∷ []) ≡ false → map (stepEncoding entries members E second) (stepsOf entries added add p) ≡ applied table add E second p
-    piece-made add (sequenceA t) e = refl
+    piece-made add (sequenceA t) e = ap (_∷ []) (seen-piece 0 t E)
     piece-made add (sequenceB t) e = go second e
       where
         go : (o : Option Encoding) → lacksSecond o (sequenceB t ∷ []) ≡ false → map (stepEncoding entries members E o) (stepsOf entries added add (sequenceB t)) ≡ applied table add E o (sequenceB t)
         go nothing e = cc
-        go (some F) e = refl
+        go (some F) e = ap (_∷ []) (seen-piece 1 t F)
     piece-made true (special s id t) e = special-made t id E
     piece-made false (special s id t) e = refl
 

@@ -2,10 +2,11 @@
 -- Assumes nothing: these are definitions.
 use mathlib.Core.Bool.{Bool, false, cond}
 use mathlib.Core.Option.{Option, none as nothing, some}
-use mathlib.Core.List.{List, [], _∷_}
+use mathlib.Core.List.{List, [], _∷_, map}
 use Prim.Native.Nat.{ℕ}
-use Rattle.record.specs.Tree.{Encoding, forest}
+use Rattle.record.specs.Tree.{Encoding, forest, windows, encoding}
 use Rattle.record.specs.Outcome.{Outcome, inRoom}
+use Rattle.record_make.specs.Making.{setSequence}
 use Rattle.join_trees.specs.Join.{fold}
 use Rattle.join_trees.specs.Outcomes.{andThen}
 use Rattle.template_pieces.specs.Piece.{Piece, sequenceA, sequenceB, special}
@@ -13,13 +14,20 @@ use Rattle.template_entries.specs.Table.{Special}
 use Rattle.template_find.specs.Last.{lastWith}
 use Rattle.template_entries.specs.Rows.{specialEncoding}
 use Rattle.template_walk.specs.Sequences.{someOk, isB}
-use Rattle.join_view.specs.declared.View.the-variants.{Piece as PieceView}
-use Rattle.join_view.specs.View.{seen}
+use Rattle.join_view.specs.View.{typed}
 
--- "Encoding i gets sequence id i, and so do its first-level windows; each piece sets type and sequence on the top encoding
--- only"
+-- "Encoding i gets sequence id i, and so do its first-level windows": set sequence of module 1, on each of them
+abbrev pub withSequence : ℕ → Encoding → Encoding
+withSequence i E = setSequence i (encoding (E .rows) (E .ranges) (map (setSequence i) (windows E)))
+
+-- its own rows with a type
+abbrev pub withType : ℕ → Encoding → Encoding
+withType t E = record { rows = map (typed t) (E .rows); ranges = E .ranges; below = E .below }
+
+-- "each piece sets type and sequence on the top encoding only" (`seen-piece` of proofs/Seen: what the code looks through is
+-- this)
 abbrev pub ofSequence : ℕ → ℕ → Encoding → Encoding
-ofSequence i t E = seen (PieceView i t) E
+ofSequence i t E = withType t (setSequence i (withSequence i E))
 
 -- a piece of the second encoding; without one there is nothing to take
 abbrev pub ofSecond : ℕ → Option Encoding → List Encoding

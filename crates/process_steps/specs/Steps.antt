@@ -10,9 +10,10 @@ use lib.ListN.{length, getD}
 use Rattle.record.specs.Tree.{Encoding, empty}
 use Rattle.template_entries.specs.Table.{entryWidth}
 use Rattle.template_entries.specs.Rows.{specialEncoding, entryMembers, MembersThere}
+use Rattle.join_view.specs.declared.View.the-variants.{Piece as PieceView}
+use Rattle.join_view.specs.View.{seen}
 use Rattle.process_steps.specs.declared.Step.{Step}
 use Rattle.process_steps.specs.declared.Step.the-variants.{First, Second, Special}
-use Rattle.process_steps.specs.Applied.{ofSequence}
 
 -- ---- Steps in numbers
 
@@ -39,8 +40,8 @@ secondOr (some F) = F
 
 -- of the entries and the members of a table, the first encoding and the second, if there is one
 abbrev pub stepEncoding : List ℕ → List ℕ → Encoding → Option Encoding → Step → Encoding
-stepEncoding entries members E second (First t) = ofSequence 0 t E
-stepEncoding entries members E second (Second t) = ofSequence 1 t (secondOr second)
+stepEncoding entries members E second (First t) = seen (PieceView 0 t) E
+stepEncoding entries members E second (Second t) = seen (PieceView 1 t) (secondOr second)
 stepEncoding entries members E second (Special t entry) = specialEncoding t (entryMembers entries members entry)
 
 -- the second encoding is there, the entry and its members are those of the table
