@@ -1,7 +1,6 @@
-// The fold of a batch, written: step by step into the output, and what refusal 6 leaves (document 01, `merge`).
+// The fold of a batch, written: step by step into the output, a run of encodings without windows in one step where the output has
+// windows, and what refusal 6 leaves (document 01, `merge`).
 ghost use Rattle.fold_write.specs.Contracts.{AskFold, WritesFold, ZeroedAll};
-use join_view::View;
-use record::Encoding;
 use record::Spot;
 
 // The fold of the batch, into the output.
@@ -20,23 +19,18 @@ pub fn write_fold(
         (now («out_rows» .entry)) (now («out_nodes» .exit)) (now («out_rows» .exit)) ⌝ }
 {
     fold_append::start(out_nodes);
-    let mut i = 0;
-    let mut j = 0;
-    while i < nodes.len() {
-        let own = record_extent::measure(nodes, i, 1);
-        fold_step::fold_step(
+    let mut at = Spot { node: 0, row: 0 };
+    while at.node < nodes.len() {
+        at = fold_next::fold_next(
             nodes,
             rows,
-            Spot { node: i, row: j },
-            View::Plain,
+            at,
             growing,
             out_nodes,
             out_rows,
             working_nodes,
             working_rows,
         );
-        i += own.nodes * Encoding::NODE_WIDTH;
-        j += own.rows * Encoding::ROW_WIDTH;
     }
 }
 

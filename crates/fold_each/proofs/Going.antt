@@ -22,7 +22,7 @@ use Rattle.join_view.specs.View.{seen}
 use Rattle.join_view.proofs.Seen.{seen-plain}
 use Rattle.fold_over.specs.Contracts.{AskStep, WritesStep}
 use Rattle.fold_step.proofs.Folding.{Folding, folding-start, step-asks, step-more, folding-end}
-use Rattle.fold_write.specs.Contracts.{AskFold, WritesFold}
+use Rattle.fold_each.specs.Contracts.{AskFold, WritesFold}
 
 -- out, out′, working and working′ are the four lent lists as the loop finds them, now, now′, used and used′ as they are.
 pub record Going (nodes rows : List ℕ) (g : Bool) (out out′ working working′ now now′ used used′ : List ℕ) (i j : ℕ) : Type 0 where

@@ -1,0 +1,4 @@
+pub mod Bare
+pub mod Tails
+pub mod Asked
+pub mod Joining
