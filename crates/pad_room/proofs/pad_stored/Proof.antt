@@ -8,9 +8,9 @@ use Rattle.record.specs.declared.Refusal.the-variants.{NoRoom}
 use Rattle.record.proofs.Outcome.{writes-refused}
 use Rattle.pad_length.specs.Target.{rowsWith}
 use Rattle.record.proofs.Passing.{nodes-of}
-use Rattle.pad.proofs.Outcomes.{stored-no-room, stored-asks, stored-writes, stored-none, stored-above}
-use Rattle.pad.proofs.pad_stored.Statement.{statement}
-use Rattle.pad.proofs.pad_stored.Tie as tie
+use Rattle.pad_room.proofs.Stored.{stored-no-room, stored-asks, stored-writes, stored-none, stored-above}
+use Rattle.pad_room.proofs.pad_stored.Statement.{statement}
+use Rattle.pad_room.proofs.pad_stored.Tie as tie
 
 -- what is measured is the rows of the result
 measured : (c : tie.After-padded-rows) →
