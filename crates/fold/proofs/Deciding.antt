@@ -24,7 +24,7 @@ use Rattle.join_trees.specs.Outcomes.{foldOutcome}
 use Rattle.join_trees.proofs.Folds.{fold-well}
 use Rattle.join_trees.proofs.Outcomes.{fold-malformed, fold-of, fold-no-room, fold-too-large, fold-done}
 use Rattle.record_room.specs.declared.Size.{Size}
-use Rattle.join_size.specs.Sizes.{Sizes}
+use Rattle.join_size.specs.Contracts.{Sizes}
 use Rattle.record_room.specs.Room.{hasRoom}
 use Rattle.record.specs.Working.{WritesWith, Zeroed}
 use Rattle.join_size.proofs.Sizes.{roomy-takes, roomy-room, not-roomy}

@@ -14,7 +14,7 @@ use Rattle.record.proofs.Flat.{length-nodes, length-rows}
 use Rattle.join_trees.specs.Join.{join, foldFrom, fold}
 use Rattle.join_trees.proofs.Join.{join-rows}
 use Rattle.join_trees.proofs.Rows.{length-joinRows}
-use Rattle.join_size.specs.Sizes.{Sizes}
+use Rattle.join_size.specs.Contracts.{Sizes}
 use Rattle.join_trees.proofs.Windowless.{no-windows, join-plain}
 
 -- ---- How it is told: it has as many nodes as encodings

@@ -8,7 +8,7 @@ use Rattle.record.specs.Tree.{Forest, listed, tops}
 use Rattle.record.specs.WellFormed.{Stores}
 use Rattle.join_trees.specs.Join.{fold}
 use Rattle.record_room.specs.declared.Size.{Size}
-use Rattle.join_size.specs.Sizes.{Sizes}
+use Rattle.join_size.specs.Contracts.{Sizes}
 
 -- the two lists store `count` encodings
 pub record AskSize (nodes rows : List ℕ) (count : ℕ) : Type 0 where

@@ -16,7 +16,9 @@ use Rattle.record.proofs.Read.{unique}
 use Rattle.record.proofs.Standing.{at-top}
 use Rattle.join_trees.specs.Join.{fold}
 use Rattle.record_extent.specs.declared.Extent.{Extent}
-use Rattle.record_extent.specs.Size.{sizeOf, Stands}
+use Rattle.record_extent.specs.Size.{sizeOf}
+use Rattle.record_extent.specs.Contracts.{Stands}
+use Rattle.record_extent.proofs.Stands.{here-stands}
 use Rattle.join_view.specs.declared.View.the-variants.{Plain}
 use Rattle.join_view.specs.View.{seen}
 use Rattle.join_view.proofs.Seen.{seen-plain}
@@ -74,7 +76,7 @@ module _ {nodes rows out out′ working working′ now now′ used used′ : Lis
     next-asks = step-asks Plain (n .folding) next-here tt
 
     pub next-stands : Stands nodes i 1 (forest (n .P ∷ []))
-    next-stands = record { rest = next-here .at .rest; is = next-here .at .is; counts = refl; fine = next-here .well .fine; few-nodes = next-here .well .fits .few-nodes; few-rows = next-here .well .fits .few-rows }
+    next-stands = here-stands next-here
 
     module _ {own : Extent} (e : own ≡ sizeOf (forest (n .P ∷ []))) where
       own-nodes : own .nodes ≡ sizeOf (forest (n .P ∷ [])) .nodes

@@ -17,11 +17,11 @@ use Rattle.join_trees.proofs.Folds.{foldFrom-append, fold-last}
 use Rattle.join_trees.proofs.Sizes.{fold-no-less, no-more-fits}
 use Rattle.join_levels.specs.declared.Profile.{Profile}
 use Rattle.join_levels.specs.declared.Answer.{Answer}
-use Rattle.join_levels.specs.Levels.{weightAt, one, levelCount, at, ProfileOf, Profiled, Measures}
+use Rattle.join_levels.specs.Levels.{weightAt, one, ProfileOf, Profiled, Measures}
+use Rattle.join_table.specs.Table.{levelCount, at, below}
 use Rattle.fold_levels.specs.Contracts.{Holds}
-use Rattle.join_levels.specs.Table.{below}
 use Rattle.join_levels_stored.specs.Contracts.{EncodingAt}
-use Rattle.join_levels.proofs.Passes.{zeros}
+use Rattle.join_table.proofs.Passes.{zeros}
 use Rattle.join_levels.proofs.Limits.{refuses, answers}
 
 -- A batch as it is lent.
@@ -92,7 +92,7 @@ next {nodes} {f} {p} {i} {g} s l = go (s .left) (s .split) (s .is) (s .well)
           others = x;
           split = e;
           is = a;
-          stands = record { rest = flatNodes x; is = a; well = record { fine = (w .fine .0, w .fine .1, tt); fits = record { few-nodes = omega (arith, w .fits .few-nodes); few-rows = omega (arith, w .fits .few-rows); few-levels = omega (arith, w .fits .few-levels) } } };
+          stands = record { there = record { rest = flatNodes x; is = a }; well = record { fine = (w .fine .0, w .fine .1, tt); fits = record { few-nodes = omega (arith, w .fits .few-nodes); few-rows = omega (arith, w .fits .few-rows); few-levels = omega (arith, w .fits .few-levels) } } };
           others-well = record { fine = w .fine .2; fits = record { few-nodes = omega (arith, w .fits .few-nodes); few-rows = omega (arith, w .fits .few-rows); few-levels = omega (arith, w .fits .few-levels) } };
         }
 

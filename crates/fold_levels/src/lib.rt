@@ -3,8 +3,8 @@ ghost use Rattle.fold_levels.specs.Contracts.{Held, MeasuresFold};
 ghost use Rattle.join_levels.specs.Levels.{ProfileOf};
 ghost use Rattle.record.specs.Tree.{empty};
 use join_levels::Answer;
-use join_levels::LEVELS;
 use join_levels::Profile;
+use join_table::LEVELS;
 use record::Encoding;
 
 // The profile of the fold of a batch, encoding by encoding; or that it is too large, at the first step that is.

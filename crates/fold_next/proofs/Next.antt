@@ -12,7 +12,8 @@ use Rattle.record.specs.WellFormed.{nodesIn}
 use Rattle.record.specs.Standing.{spot, Here, Put}
 use Rattle.record.specs.Outcome.{Room}
 use Rattle.record.specs.declared.Spot.{Spot}
-use Rattle.record_extent.specs.Size.{sizeOf, Stands}
+use Rattle.record_extent.specs.Contracts.{Stands}
+use Rattle.record_extent.specs.Size.{sizeOf}
 use Rattle.record_extent.specs.declared.Extent.{Extent}
 use Rattle.record_extent.proofs.Stands.{here-stands}
 use Rattle.join_trees.specs.Join.{join, foldFrom, fold}

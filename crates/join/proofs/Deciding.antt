@@ -23,7 +23,7 @@ use Rattle.join_view.specs.declared.View.the-variants.{Plain}
 use Rattle.join_view.specs.View.{seen}
 use Rattle.join_write.specs.Contracts.{AskJoin}
 use Rattle.record_room.specs.declared.Size.{Size}
-use Rattle.join_size.specs.Sizes.{Sizes}
+use Rattle.join_size.specs.Contracts.{Sizes}
 use Rattle.record_room.specs.Room.{hasRoom}
 use Rattle.join_size.proofs.Sizes.{roomy-room, not-roomy, roomy-takes}
 use Rattle.join_view.proofs.Seen.{seen-plain}

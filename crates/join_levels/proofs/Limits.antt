@@ -16,10 +16,11 @@ use Rattle.join_trees.specs.Join.{join}
 use Rattle.join_trees.proofs.Sizes.{total, total-nodes, total-rows, levels-join}
 use Rattle.join_levels.specs.declared.Profile.{Profile}
 use Rattle.join_levels.specs.declared.Answer.{Answer}
-use Rattle.join_levels.specs.Levels.{levelCount, at, one, weightAt, nodesAt, rowsAt, ProfileOf, Profiled, Measures}
-use Rattle.join_levels.specs.Table.{below, joined, Has, Small4}
-use Rattle.join_levels.proofs.Numbers.{below-next, below-mono, below-same, joined-none-left}
-use Rattle.join_levels.proofs.Passes.{zeros}
+use Rattle.join_table.specs.Table.{levelCount, at, below, joined}
+use Rattle.join_levels.specs.Levels.{one, weightAt, nodesAt, rowsAt, ProfileOf, Profiled, Measures}
+use Rattle.join_table.specs.Contracts.{Has, Small4}
+use Rattle.join_table.proofs.Numbers.{below-next, below-mono, below-same, joined-none-left}
+use Rattle.join_table.proofs.Passes.{zeros}
 use Rattle.join_levels.proofs.Profiles.{nodes-join, rows-join, total-one, beyond-one}
 
 -- ---- What holds of the profile of an encoding within the limits

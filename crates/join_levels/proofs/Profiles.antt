@@ -14,8 +14,8 @@ use Rattle.join_trees.proofs.Join.{join-rows, join-windows}
 use Rattle.join_trees.proofs.Rows.{length-joinRows}
 use Rattle.join_trees.proofs.Sizes.{total}
 use Rattle.join_levels.specs.Levels.{sum, weightAt, one, nodesAt, rowsAt}
-use Rattle.join_levels.specs.Table.{below, later, joined}
-use Rattle.join_levels.proofs.Numbers.{joined-none-left, joined-none-right, joined-add-left, joined-add-right}
+use Rattle.join_table.specs.Table.{below, later, joined}
+use Rattle.join_table.proofs.Numbers.{joined-none-left, joined-none-right, joined-add-left, joined-add-right}
 
 sum-append : (s t : List ℕ) → sum (s ++ t) ≡ sum s + sum t
 sum-append [] t = omega arith

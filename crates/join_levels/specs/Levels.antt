@@ -4,11 +4,12 @@ use mathlib.Core.Path.{_≡_}
 use mathlib.Core.Bool.{true, false}
 use mathlib.Core.List.{List, [], _∷_, map}
 use Prim.Native.Nat.{ℕ, zero, suc, _+_}
-use lib.ListN.{length, getD}
+use lib.ListN.{length}
 use Rattle.record.specs.Tree.{Row, Encoding, forest, windows}
-use Rattle.record.specs.WellFormed.{Fits, levels, mostLevels}
+use Rattle.record.specs.WellFormed.{Fits, levels}
 use Rattle.join_levels.specs.declared.Profile.{Profile}
 use Rattle.join_levels.specs.declared.Answer.{Answer}
+use Rattle.join_table.specs.Table.{at}
 
 -- ---- The sum of a count over the encodings of one level
 
@@ -32,14 +33,6 @@ abbrev pub rowsAt : ℕ → Encoding → ℕ
 rowsAt d E = weightAt length d E
 
 -- ---- A profile
-
--- the top and the levels below it
-abbrev pub levelCount : ℕ
-levelCount = suc mostLevels
-
--- the list's values, 0 past its end
-abbrev pub at : List ℕ → ℕ → ℕ
-at l i = getD l i 0
 
 -- p is E's: the nodes and the rows at each level, and the levels below the top
 pub record ProfileOf (E : Encoding) (p : Profile) : Type 0 where

@@ -1,3 +1,2 @@
 pub mod Levels
-pub mod Table
-pub mod Sized
+pub mod Contracts

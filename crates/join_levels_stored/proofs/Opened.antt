@@ -15,9 +15,10 @@ use Rattle.record.specs.Standing.{At}
 use Rattle.record.proofs.Flat.{length-numbers, range-stored, drop-node, length-nodes}
 use Rattle.record.proofs.Standing.{at-size, at-count}
 use Rattle.join_trees.proofs.Sizes.{total-nodes, total-rows}
-use Rattle.join_levels.specs.Levels.{weightAt, one, nodesAt, rowsAt, levelCount, at, ProfileOf}
+use Rattle.join_levels.specs.Levels.{weightAt, one, nodesAt, rowsAt, ProfileOf}
+use Rattle.join_table.specs.Table.{levelCount, at}
 use Rattle.join_levels_stored.specs.Contracts.{EncodingAt}
-use Rattle.join_levels.proofs.Passes.{zeros}
+use Rattle.join_table.proofs.Passes.{zeros}
 use Rattle.join_levels.proofs.Profiles.{each}
 use Rattle.join_levels.proofs.Limits.{level-few}
 
@@ -84,8 +85,8 @@ left-start {nodes} {start} {E} s = record {
   depth-is = refl;
   stands-open = record {
     pends = (refl, tt);
-    rest = s .rest;
-    is = s .is ∙ ap (_++ s .rest) (sym (append-nil (flatNodes (forest (E ∷ [])))));
+    rest = s .there .rest;
+    is = s .there .is ∙ ap (_++ s .there .rest) (sym (append-nil (flatNodes (forest (E ∷ [])))));
     fine = (s .well .fine, tt);
     near = (omega (arith, s .well .fits .few-levels), tt);
     nodes-are = λ d. omega (arith, zeros levelCount d);

@@ -11,9 +11,9 @@ use Rattle.record.specs.Standing.{One}
 use Rattle.record.proofs.One.{one-at}
 use Rattle.join_trees.proofs.Sizes.{total-nodes, total-rows}
 use Rattle.join_levels.specs.declared.Profile.{Profile}
-use Rattle.join_levels.specs.Levels.{weightAt, one, levelCount, at, ProfileOf, Profiled}
-use Rattle.join_levels.specs.Table.{below}
-use Rattle.join_levels.proofs.Numbers.{below-same}
+use Rattle.join_levels.specs.Levels.{weightAt, one, ProfileOf, Profiled}
+use Rattle.join_table.specs.Table.{levelCount, at, below}
+use Rattle.join_table.proofs.Numbers.{below-same}
 use Rattle.join_levels.proofs.Profiles.{total-one}
 use Rattle.join_levels.proofs.Limits.{few-levels-of}
 use Rattle.join_levels_stored.specs.Contracts.{EncodingAt}
@@ -27,4 +27,4 @@ module _ {p : Profile} (h : Profiled p) (E : Encoding) (o : ProfileOf E p) where
 
 -- A batch of one encoding: it stands at the beginning of its nodes.
 pub one-stands : {nodes rows : List ℕ} {E : Encoding} → One nodes rows E → EncodingAt nodes 0 E
-one-stands h = record { rest = one-at h .rest; is = one-at h .is; well = h .stores .well }
+one-stands h = record { there = record { rest = one-at h .rest; is = one-at h .is }; well = h .stores .well }

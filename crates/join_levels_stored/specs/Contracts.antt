@@ -1,9 +1,9 @@
 -- What the profile of a stored encoding asks and gives.
 -- Assumes nothing: these are definitions.
 use mathlib.Core.Path.{_≡_}
-use mathlib.Core.List.{List, [], _∷_, _++_}
+use mathlib.Core.List.{List, [], _∷_}
 use Prim.Native.Nat.{ℕ}
-use lib.ListN.{drop}
+use Rattle.lists.specs.Stretch.{Stretch}
 use Rattle.record.specs.Tree.{Encoding, forest}
 use Rattle.record.specs.Flat.{flatNodes}
 use Rattle.record.specs.WellFormed.{WellFormed, nodesIn, rowsIn}
@@ -12,10 +12,9 @@ use Rattle.join_levels.specs.Levels.{ProfileOf}
 
 -- ---- An encoding in a list of nodes
 
--- the nodes from place i on begin with E's
+-- the nodes from place i on begin with E's (`Here` of record asks for its rows too, which a profile is not taken from)
 pub record EncodingAt (nodes : List ℕ) (i : ℕ) (E : Encoding) : Type 0 where
-  pub rest : List ℕ
-  pub is : drop i nodes ≡ flatNodes (forest (E ∷ [])) ++ rest
+  pub there : Stretch nodes i (flatNodes (forest (E ∷ [])))
   pub well : WellFormed (forest (E ∷ []))
 
 pub record Standing (nodes : List ℕ) (i : ℕ) : Type 0 where

@@ -2,12 +2,12 @@
 // anything.
 ghost use mathlib.Core.Path.{_≡_};
 ghost use Prim.Native.Nat.{ℕ, _≤_};
-ghost use Rattle.join_levels.specs.Levels.{levelCount, at, Profiled};
-ghost use Rattle.join_levels.specs.Table.{below};
+ghost use Rattle.join_table.specs.Table.{levelCount, at, below};
+ghost use Rattle.join_levels.specs.Levels.{Profiled};
 ghost use Rattle.join_levels_stored.specs.Contracts.{Standing, ProfilesAt, CountsNodes, CountsRows};
 ghost use Rattle.record.specs.WellFormed.{mostRows};
-use join_levels::LEVELS;
 use join_levels::Profile;
+use join_table::LEVELS;
 use record::Encoding;
 
 // One more than the levels: below the last an empty list of windows may be open.

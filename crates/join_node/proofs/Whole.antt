@@ -11,7 +11,8 @@ use Rattle.record.specs.Standing.{spot}
 use Rattle.record.proofs.Here.{here-own}
 use Rattle.join_view.specs.declared.View.{View}
 use Rattle.record.specs.declared.Spot.{Spot}
-use Rattle.join_node.specs.Contracts.{AskNode, WritesNode, AskNumbers, WritesNumbers}
+use Rattle.join_node.specs.Contracts.{AskNode, WritesNode}
+use Rattle.join_numbers.specs.Contracts.{AskNumbers, WritesNumbers}
 use Rattle.join_rows.specs.Contracts.{AskOwn, WritesOwn}
 use Rattle.join_ranges.proofs.Nodes.{node-count, here-node, own-inside}
 

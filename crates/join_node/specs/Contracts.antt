@@ -1,4 +1,4 @@
--- What the functions that write one node of a join ask and give.
+-- What writing one node of a join, with its rows, asks and gives.
 -- Assumes nothing: these are definitions.
 use mathlib.Core.Path.{_≡_}
 use mathlib.Core.Bool.{Bool}
@@ -15,26 +15,7 @@ use Rattle.join_trees.specs.Join.{base, windowCount}
 use Rattle.join_trees.specs.Offsets.{MovedWithin}
 use Rattle.join_view.specs.declared.View.{View}
 use Rattle.join_view.specs.View.{ViewFine}
-use Rattle.join_ranges.specs.Contracts.{NodeAt}
 use Rattle.join_view.specs.Node.{nodeNumbers, ownNumbers}
-
--- ---- The numbers of a node
-
--- The two nodes stand there, and there is room for the node of their join.
-pub record AskNumbers (nodes : List ℕ) (i : ℕ) (nodes′ : List ℕ) (k : ℕ) (v : View) (out : List ℕ) (at : ℕ) : Type 0 where
-  pub S : Encoding
-  pub P : Encoding
-  pub there-s : NodeAt nodes i S
-  pub there-p : NodeAt nodes′ k P
-  pub view-fine : ViewFine v
-  pub few-windows : windowCount (length (windows S)) (length (windows P)) ≤ mostNodes
-  pub few-rows : length (S .rows) + length (P .rows) ≤ mostRows
-  pub fits : at + nodeWidth ≤ length out
-
-pub record WritesNumbers (nodes : List ℕ) (i : ℕ) (nodes′ : List ℕ) (k : ℕ) (v : View) (out : List ℕ) (at : ℕ) (out₁ : List ℕ) : Type 0 where
-  pub numbers : (S P : Encoding) → NodeAt nodes i S → NodeAt nodes′ k P → out₁ ≡ sets out at (nodeNumbers v S P)
-
--- ---- The node and its rows
 
 -- The two stand there, their offsets stay within 32 bits, and from `at` on there is room for the node and its rows.
 pub record AskNode (nodes rows : List ℕ) (s : Spot) (nodes′ rows′ : List ℕ) (p : Spot) (v : View) (g : Bool) (out out′ : List ℕ) (at : Spot) : Type 0 where

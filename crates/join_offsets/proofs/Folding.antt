@@ -16,7 +16,8 @@ use Rattle.record.specs.Standing.{Here}
 use Rattle.record.proofs.Flat.{length-nodes}
 use Rattle.record.proofs.Here.{here-rows-fit, here-first, here-next}
 use Rattle.record_extent.specs.declared.Extent.{Extent}
-use Rattle.record_extent.specs.Size.{sizeOf, Stands}
+use Rattle.record_extent.specs.Size.{sizeOf}
+use Rattle.record_extent.specs.Contracts.{Stands}
 use Rattle.join_trees.specs.Join.{join}
 use Rattle.join_trees.specs.Offsets.{mostOffset, joinFits, stepsFit, foldFits}
 use Rattle.join_trees.proofs.Offsets.{OffsetsFit, tells-offsets}

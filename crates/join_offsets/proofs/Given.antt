@@ -13,7 +13,7 @@ use Rattle.record.specs.Standing.{Here}
 use Rattle.record.proofs.Flat.{length-nodes, length-rows}
 use Rattle.record.proofs.Standing.{at-top}
 use Rattle.record.proofs.Walk.{flat-rows, length-all-rows}
-use Rattle.record_extent.specs.Size.{Stands}
+use Rattle.record_extent.specs.Contracts.{Stands}
 use Rattle.join_reach.specs.Reach.{largestOffset, largest}
 use Rattle.join_reach.specs.Contracts.{RowsFrom, NodesFrom}
 
@@ -42,7 +42,7 @@ module _ {nodes rows : List ℕ} {i j : ℕ} {f : Forest} (h : Here nodes rows i
   rows-from e = record { there = record { rest = h .at .rest-rows; is = h .at .is-rows ∙ ap (_++ h .at .rest-rows) (flat-rows f) }; counts = length-all-rows f ∙ sym e }
 
 pub here-stands : {nodes rows : List ℕ} {i j : ℕ} {E : Encoding} → Here nodes rows i j (forest (E ∷ [])) → Stands nodes i 1 (forest (E ∷ []))
-here-stands h = record { rest = h .at .rest; is = h .at .is; counts = omega arith; fine = h .well .fine; few-nodes = h .well .fits .few-nodes; few-rows = h .well .fits .few-rows }
+here-stands h = record { there = record { rest = h .at .rest; is = h .at .is }; counts = omega arith; fine = h .well .fine; few-nodes = h .well .fits .few-nodes; few-rows = h .well .fits .few-rows }
 
 -- ---- A whole batch
 

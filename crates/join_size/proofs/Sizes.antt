@@ -22,7 +22,7 @@ use Rattle.join_levels.specs.Levels.{Profiled, Measures}
 use Rattle.join_levels_stored.specs.Contracts.{ProfilesAt, CountsNodes, CountsRows, EncodingAt}
 use Rattle.record_room.specs.declared.Size.{Size}
 use Rattle.record_room.specs.Room.{hasRoom}
-use Rattle.join_size.specs.Sizes.{Takes, Sizes}
+use Rattle.join_size.specs.Contracts.{Takes, Sizes}
 use Rattle.record_room.proofs.Room.{tells-room}
 use Rattle.join_trees.proofs.Windowless.{join-plain-nodes, join-plain-rows, join-plain-levels}
 
@@ -66,10 +66,10 @@ module _ {E : Encoding} {answer : Answer} (measured : Measures E answer) where
 -- the encoding at the beginning of a list of nodes, by its two counts
 module _ {nodes : List ℕ} {E : Encoding} (h : EncodingAt nodes 0 E) where
   at-front : At nodes (flatRows (forest (E ∷ []))) 0 0 (forest (E ∷ []))
-  at-front = record { rest = h .rest; is = h .is; rest-rows = []; is-rows = sym (append-nil (flatRows (forest (E ∷ [])))) }
+  at-front = record { rest = h .there .rest; is = h .there .is; rest-rows = []; is-rows = sym (append-nil (flatRows (forest (E ∷ [])))) }
 
   pub front-long : nodeWidth ≤ length nodes
-  front-long = omega (arith, ap length (h .is), length-append (flatNodes (forest (E ∷ []))) (h .rest), length-nodes (forest (E ∷ [])) (h .well .fine))
+  front-long = omega (arith, ap length (h .there .is), length-append (flatNodes (forest (E ∷ []))) (h .there .rest), length-nodes (forest (E ∷ [])) (h .well .fine))
 
   pub front-profiled : {p : Profile} → ProfilesAt nodes 0 p → Profiled p
   front-profiled o = record { E = E; is = o E h; fits = h .well .fits }

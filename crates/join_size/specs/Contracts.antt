@@ -1,16 +1,27 @@
 -- What the functions ask and give that tell how much a join takes.
 -- Assumes nothing: these are definitions.
 use mathlib.Core.Path.{_≡_}
-use mathlib.Core.Bool.{Bool, true}
-use mathlib.Core.List.{List}
+use mathlib.Core.Bool.{Bool, true, false}
+use mathlib.Core.List.{List, [], _∷_}
 use Prim.Native.Nat.{ℕ}
-use Rattle.record.specs.Tree.{Encoding}
+use Rattle.record.specs.Tree.{Encoding, forest}
 use Rattle.join_trees.specs.Join.{join}
 use Rattle.join_levels.specs.declared.Answer.{Answer}
 use Rattle.join_levels.specs.Levels.{Profiled, Measures}
 use Rattle.join_levels_stored.specs.Contracts.{EncodingAt}
 use Rattle.record_room.specs.declared.Size.{Size}
-use Rattle.join_size.specs.Sizes.{Sizes}
+use Rattle.record.specs.WellFormed.{Fits, nodesIn, rowsIn}
+
+-- E is within the limits, and this is how much it takes.
+pub record Takes (E : Encoding) (s : Size) : Type 0 where
+  pub nodes : s .nodes ≡ nodesIn (forest (E ∷ []))
+  pub rows : s .rows ≡ rowsIn (forest (E ∷ []))
+  pub limits : Fits (forest (E ∷ []))
+
+-- Whether E is within the limits, and then how much it takes.
+pub record Sizes (E : Encoding) (s : Size) : Type 0 where
+  pub fitting : s .fits ≡ true → Takes E s
+  pub too-large : s .fits ≡ false → Fits (forest (E ∷ [])) → ⊥
 
 -- ---- From what was measured
 

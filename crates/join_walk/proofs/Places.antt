@@ -11,7 +11,8 @@ use Rattle.record.specs.WellFormed.{nodesIn, rowsIn}
 use Rattle.record.specs.Standing.{spot, Here}
 use Rattle.record.proofs.Standing.{at-count}
 use Rattle.record.proofs.Here.{here-size, here-below, here-nodes-fit, here-rows-fit}
-use Rattle.record_extent.specs.Size.{Stands}
+use Rattle.record_extent.specs.Contracts.{Stands}
+use Rattle.record_extent.proofs.Stands.{here-stands}
 use Rattle.record.specs.declared.Spot.{Spot}
 use Rattle.join_walk.specs.Contracts.{mostPlace, AskDown, firstWindow, AskNext, Follows}
 
@@ -30,7 +31,7 @@ module _ {nodes rows : List ℕ} {s : Spot} {E : Encoding} (h : Here nodes rows 
   windows-many e = sym (e ∙ at-count (h .at))
 
   stands : Stands nodes (s .node) 1 (forest (E ∷ []))
-  stands = record { rest = h .at .rest; is = h .at .is; counts = refl; fine = h .well .fine; few-nodes = h .well .fits .few-nodes; few-rows = h .well .fits .few-rows }
+  stands = here-stands h
 
   pub ask-next : length rows ≤ mostPlace → AskNext nodes s
   ask-next l = record { E = E; stands = stands; nodes-fit = here-nodes-fit h; rows-fit = omega (arith, here-rows-fit h) }

@@ -7,7 +7,7 @@ use lib.ListN.{length, getD}
 use Rattle.record.specs.Tree.{Encoding, forest}
 use Rattle.record.specs.Flat.{rowWidth, nodeWidth}
 use Rattle.record.specs.WellFormed.{nodesIn, rowsIn}
-use Rattle.record_extent.specs.Size.{Stands}
+use Rattle.record_extent.specs.Contracts.{Stands}
 use Rattle.record.specs.declared.Spot.{Spot}
 use Rattle.record.specs.Standing.{spot}
 

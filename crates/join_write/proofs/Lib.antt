@@ -1,3 +1,4 @@
+pub mod Falling
 pub mod Sides
 pub mod Going
 pub mod Joined

@@ -5,7 +5,7 @@ use mathlib.Core.Bool.{Bool}
 use mathlib.Core.List.{List, [], _∷_, map}
 use Prim.Native.Nat.{ℕ, _+_, _-_, _≤_, _<_}
 use native.Mathlib.Omega.{arith}
-use lib.ListN.{getD}
+use lib.ListN.{length, getD}
 use Rattle.record.specs.Tree.{Forest, node, Encoding, listed, forest, tops}
 use Rattle.record.specs.WellFormed.{Fine}
 use Rattle.record.specs.Standing.{Here}
@@ -21,7 +21,8 @@ use Rattle.join_walk.specs.Contracts.{firstWindow, Follows}
 use Rattle.join_write.proofs.Going.{Room, room-first, going-room, going-on, going-end}
 use Rattle.join_write.proofs.Joined.{each-fine, room-asked, ask-in}
 use Rattle.join_write.proofs.Walk.{Walk, Turn, walk-start, walk-turn, walk-on, walk-end}
-use Rattle.join_walk.proofs.Places.{windows-there, windows-many, follows}
+use Rattle.join_walk.proofs.Places.{one-fits, windows-there, windows-many, follows}
+use Rattle.join_write.proofs.Falling.{leftOf}
 
 -- S with each of a forest, seen
 abbrev pub withSeen : View → Bool → Encoding → Forest → List Encoding
@@ -78,6 +79,10 @@ module _ {nodes rows : List ℕ} {s : Spot} {nodes′ rows′ : List ℕ} {g : B
 
       pub row-turn : 0 < k → Turn (withSeen b g (w .S)) (withSeen b g (w .S) (w .F)) nodes′ rows′ y k out out′ at a out₁ out₁′
       row-turn l = walk-turn row-walk l
+
+      -- fewer numbers of nodes are left from it on than from P on
+      pub row-falls : (p : Spot) {t : ℕ} → first ≡ firstWindow nodes′ p → 0 < k → leftOf (length nodes) (s .node) (length nodes′) (p .node) ≡ t → leftOf (length nodes) (s .node) (length nodes′) (y .node) + 2 < t
+      row-falls p e l m = omega (arith, r .far, ap (λ (z : Spot). z .node) e, one-fits (row-turn l .here))
 
       -- one of them: what the join with it asks
       pub row-asks : 0 < k → Ask joined nodes rows s nodes′ rows′ y b g out₁ out₁′ a

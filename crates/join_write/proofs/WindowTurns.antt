@@ -5,7 +5,7 @@ use mathlib.Core.Bool.{Bool}
 use mathlib.Core.List.{List, [], _∷_, _++_, flatMap, append-assoc, append-nil}
 use Prim.Native.Nat.{ℕ, _+_, _-_, _≤_, _<_}
 use native.Mathlib.Omega.{arith}
-use lib.ListN.{getD}
+use lib.ListN.{length, getD}
 use Rattle.record.specs.Tree.{Forest, node, Encoding, listed, forest}
 use Rattle.record.specs.Standing.{Here}
 use Rattle.join_trees.specs.Join.{join}
@@ -18,7 +18,8 @@ use Rattle.join_walk.specs.Contracts.{firstWindow, Follows}
 use Rattle.join_write.proofs.Going.{Room, room-first, room-after, going-room, going-on, going-end}
 use Rattle.join_write.proofs.Joined.{windowed-fine, room-asked, ask-in}
 use Rattle.join_write.proofs.Walk.{Walk, Turn, walk-start, walk-turn, walk-on, walk-end}
-use Rattle.join_walk.proofs.Places.{windows-there, windows-many, follows}
+use Rattle.join_walk.proofs.Places.{one-fits, windows-there, windows-many, follows}
+use Rattle.join_write.proofs.Falling.{leftOf}
 
 -- What is left to be written while f are left of S's windows: each of f with P and with each window of P; after these S
 -- with each window of P.
@@ -55,6 +56,13 @@ module _ {nodes rows : List ℕ} {s : Spot} {nodes′ rows′ : List ℕ} {p : S
       module _ (l : 0 < k) where
         pub windows-turn : Turn (leftOver v g (w .S) (w .P)) (windowed v g (w .S) (w .P)) nodes rows x k out out′ at a out₁ out₁′
         windows-turn = walk-turn windows-walk l
+
+        -- fewer numbers of nodes are left from it on than from S on
+        pub windows-deeper : {t : ℕ} → leftOf (length nodes) (s .node) (length nodes′) (p .node) + 1 ≡ t → leftOf (length nodes) (x .node) (length nodes′) (p .node) + 2 < t
+        windows-deeper m = omega (arith, r .far, one-fits (windows-turn .here))
+
+        pub windows-row-deeper : {t : ℕ} → leftOf (length nodes) (s .node) (length nodes′) (p .node) + 1 ≡ t → leftOf (length nodes) (x .node) (length nodes′) (p .node) < t
+        windows-row-deeper m = omega (arith, r .far, one-fits (windows-turn .here))
 
         room-left : Room (joined v g (windows-turn .E) (w .P) ++ (rowed v g (windows-turn .E) (w .P) ++ leftOver v g (w .S) (w .P) (windows-turn .rest))) out₁ out₁′ a
         room-left = rw left-one at (going-room (windows-turn .going) room)

@@ -20,7 +20,7 @@ use Rattle.record_room.specs.Room.{hasRoom}
 use Rattle.join_levels_stored.specs.Contracts.{EncodingAt}
 use Rattle.record.specs.declared.Spot.{Spot}
 use Rattle.record_room.specs.declared.Size.{Size}
-use Rattle.join_size.specs.Sizes.{Sizes}
+use Rattle.join_size.specs.Contracts.{Sizes}
 use Rattle.record.specs.Working.{WritesWith, Zeroed}
 use Rattle.join_size.proofs.Sizes.{roomy-takes, roomy-room, not-roomy}
 use Rattle.record.proofs.Working.{with-done}
@@ -28,15 +28,15 @@ use Rattle.process_steps.specs.declared.Step.{Step}
 use Rattle.process_steps.specs.Applied.{foldedInto}
 use Rattle.process_steps.specs.Steps.{stepEncoding}
 use Rattle.process_steps.proofs.Folded.{folded-no-room, folded-done}
-use Rattle.process_sizes.specs.Contracts.{SecondStands, StepsOf}
-use Rattle.process_steps.specs.Standing.{SecondHere, StepsHere}
-use Rattle.process_apply.specs.Contracts.{Ready}
-use Rattle.process_apply.proofs.Encodings.{steps-fine, steps-fit}
+use Rattle.process_rows.specs.Contracts.{SecondStands, StepsOf}
+use Rattle.process_steps.specs.Contracts.{SecondHere, StepsHere}
+use Rattle.process_write.specs.Contracts.{Ready}
+use Rattle.process_write.proofs.Encodings.{steps-fine, steps-fit}
 
 -- ---- What is measured
 
 here-stands : {nodes rows : List ℕ} {i j : ℕ} {E : Encoding} → Here nodes rows i j (forest (E ∷ [])) → EncodingAt nodes i E
-here-stands h = record { rest = h .at .rest; is = h .at .is; well = h .well }
+here-stands h = record { there = record { rest = h .at .rest; is = h .at .is }; well = h .well }
 
 module _ {nodes rows : List ℕ} {s : Spot} {entries members numbers : List ℕ} {count : ℕ} {E : Encoding} {second : Option Encoding} {steps : List Step} (h : StepsHere nodes rows s entries members numbers count E second steps) where
   pub steps-of : StepsOf nodes (s .node) entries numbers count members E second steps

@@ -1,3 +1,1 @@
-pub mod Encodings
-pub mod Along
 pub mod Deciding

@@ -1,49 +1,8 @@
 // The steps of a template taken one after another: measured, then written to the output (document 01, module 9).
-ghost use Rattle.process_apply.specs.Contracts.{AskApply, Applies, AskWrite, WritesSteps};
+ghost use Rattle.process_apply.specs.Contracts.{AskApply, Applies};
 use record::Refusal;
 use record::Spot;
 use record::Written;
-
-// The fold of what the steps speak of, into the output.
-fn write_steps(
-    nodes: &[u32],
-    rows: &[u32],
-    second: Spot,
-    entries: &[u32],
-    members: &[u32],
-    steps: &[u32],
-    count: usize,
-    out_nodes: &mut [u32],
-    out_rows: &mut [u32],
-    working_nodes: &mut [u32],
-    working_rows: &mut [u32],
-)
-    requires { ⌜ AskWrite (now nodes) (now rows) second (now entries) (now members) (now steps) count
-        (now «out_nodes») (now «out_rows») (now «working_nodes») (now «working_rows») ⌝ }
-    ensures { λ _. ⌜ WritesSteps (now (nodes .entry)) (now (rows .entry)) second (now (entries .entry)) (now (members .entry))
-        (now (steps .entry)) count (now («out_nodes» .entry)) (now («out_rows» .entry))
-        (now («working_nodes» .entry)) (now («working_rows» .entry))
-        (now («out_nodes» .exit)) (now («out_rows» .exit)) ⌝ }
-{
-    fold_append::start(out_nodes);
-    let mut i = 0;
-    while i < count {
-        let step = process_steps::step_at(steps, i);
-        process_take::write_step(
-            nodes,
-            rows,
-            second,
-            entries,
-            members,
-            step,
-            out_nodes,
-            out_rows,
-            working_nodes,
-            working_rows,
-        );
-        i += 1;
-    }
-}
 
 // The encodings that `count` steps speak of, joined in their order from the empty encoding on, without growing offsets.
 // Refuses 2 no room in the output or in the working store. The working store is zeroed on success.
@@ -73,7 +32,7 @@ pub fn apply_steps(
     if !record_room::has_room(size, working_nodes.len(), working_rows.len()) {
         return Written::Refused(Refusal::NoRoom);
     }
-    write_steps(
+    process_write::write_steps(
         nodes,
         rows,
         second,

@@ -29,7 +29,7 @@ use Rattle.template_known.specs.declared.Validity.the-variants.{Valid, Refused}
 use Rattle.template_walk.specs.Sequences.{isB, someOk}
 use Rattle.template_known.specs.Known.{known, knownAnswer}
 use Rattle.process_steps.specs.Applied.{applied, foldedInto}
-use Rattle.process_steps.specs.Standing.{Inputs}
+use Rattle.process_steps.specs.Contracts.{Inputs}
 use Rattle.process_plan.specs.Contracts.{Plans}
 use Rattle.process_plan.specs.declared.PlanAnswer.{PlanAnswer}
 use Rattle.process_plan.specs.declared.PlanAnswer.the-variants.{Steps, Refused as Unplanned}

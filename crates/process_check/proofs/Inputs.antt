@@ -20,7 +20,7 @@ use Rattle.record.specs.declared.Spot.{Spot}
 use Rattle.template_pieces.specs.Piece.{Piece}
 use Rattle.template_walk.specs.Sequences.{someOk, isB}
 use Rattle.process_steps.specs.Applied.{lacksSecond}
-use Rattle.process_steps.specs.Standing.{Inputs}
+use Rattle.process_steps.specs.Contracts.{Inputs}
 
 -- the second stands where the first ends
 pub inputs-of : {nodes rows : List ℕ} {E : Encoding} (second : Option Encoding) → OneOrTwo nodes rows E second → {own : Extent} → own ≡ sizeOf (forest (E ∷ [])) → Inputs nodes rows (spot (own .nodes * nodeWidth) (own .rows * rowWidth)) E second

@@ -26,7 +26,7 @@ use Rattle.template_known.specs.Known.{known, knownAnswer}
 use Rattle.process_steps.specs.declared.Step.{Step}
 use Rattle.process_steps.specs.Applied.{lacksSecond, foldedInto}
 use Rattle.process_steps.specs.Steps.{stepEncoding}
-use Rattle.process_steps.specs.Standing.{Inputs, StepsHere}
+use Rattle.process_steps.specs.Contracts.{Inputs, StepsHere}
 use Rattle.process_check.specs.declared.Decision.{Decision}
 use Rattle.process_check.specs.declared.Decision.the-variants.{Refused as RefusedWith, Take}
 

@@ -21,7 +21,8 @@ use Rattle.template_entries.proofs.Sound.{TableHolds}
 use Rattle.template_find.proofs.Found.{missing, found-among, found-is}
 use Rattle.process_steps.specs.declared.Step.{Step}
 use Rattle.process_steps.specs.Applied.{ofSpecial, applied, lacksSecond}
-use Rattle.process_steps.specs.Steps.{stepEncoding, StepFine}
+use Rattle.process_steps.specs.Steps.{stepEncoding}
+use Rattle.process_steps.specs.Contracts.{StepFine}
 use Rattle.process_steps.proofs.Seen.{seen-piece}
 use Rattle.process_plan.specs.Contracts.{specialStep}
 use Rattle.process_plan.proofs.Piece.{listed, stepsOf}

@@ -23,7 +23,8 @@ use Rattle.template_known.specs.Known.{known}
 use Rattle.process_steps.specs.declared.Step.{Step}
 use Rattle.process_steps.specs.declared.Step.the-variants.{First, Second, Special as SpecialStep}
 use Rattle.process_steps.specs.Applied.{applied, lacksSecond}
-use Rattle.process_steps.specs.Steps.{StepsAt, StepFine, stepEncoding}
+use Rattle.process_steps.specs.Contracts.{StepsAt, StepFine}
+use Rattle.process_steps.specs.Steps.{stepEncoding}
 use Rattle.process_plan.specs.declared.PlanAnswer.{PlanAnswer}
 use Rattle.process_plan.specs.declared.PlanAnswer.the-variants.{Steps}
 use Rattle.process_plan.specs.declared.StepAnswer.{StepAnswer}

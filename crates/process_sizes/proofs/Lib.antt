@@ -1,5 +1,4 @@
 mod Places
 mod Alone
 mod Profiles
-mod Walked
 mod Turns

@@ -12,9 +12,10 @@ use Rattle.record.specs.WellFormed.{mostRows}
 use Rattle.join_trees.proofs.Sizes.{no-more-fits, join-no-less-right}
 use Rattle.join_levels.specs.declared.Profile.{Profile}
 use Rattle.join_levels.specs.declared.Answer.{Answer}
-use Rattle.join_levels.specs.Levels.{sum, weightAt, one, levelCount, at, ProfileOf, Profiled}
-use Rattle.join_levels.specs.Sized.{SizesJoin}
-use Rattle.join_levels.proofs.Passes.{zeros}
+use Rattle.join_levels.specs.Levels.{sum, weightAt, one, ProfileOf, Profiled}
+use Rattle.join_table.specs.Table.{levelCount, at}
+use Rattle.join_levels.specs.Contracts.{SizesJoin}
+use Rattle.join_table.proofs.Passes.{zeros}
 use Rattle.join_levels.proofs.Limits.{refuses}
 use Rattle.template_entries.specs.Table.{noMember}
 use Rattle.template_entries.specs.Rows.{specialRow, membersOf}
@@ -25,8 +26,10 @@ use Rattle.join_view.proofs.Seen.{seen-windows, length-rows-seen, levels-seen}
 use Rattle.join_trees.proofs.Windowless.{no-windows}
 use Rattle.process_steps.specs.declared.Step.{Step}
 use Rattle.process_steps.specs.declared.Step.the-variants.{First, Second, Special}
-use Rattle.process_sizes.specs.Contracts.{Alone, ProfilesAlone, MeasuresAlone, MeasuresStep}
-use Rattle.process_sizes.proofs.Alone.{alone-special, alone-sizes}
+use Rattle.process_rows.specs.Contracts.{Alone}
+use Rattle.process_sizes.specs.Contracts.{ProfilesAlone, MeasuresAlone, MeasuresStep}
+use Rattle.process_rows.proofs.Alone.{alone-special}
+use Rattle.process_sizes.proofs.Alone.{alone-sizes}
 
 -- ---- Seen through a view
 

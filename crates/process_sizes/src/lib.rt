@@ -1,84 +1,13 @@
 // What the result of a template's steps takes, known before it is built (document 01, refusal 2 of process).
-ghost use mathlib.Core.Path.{_≡_};
-ghost use Prim.Native.Nat.{_/_, _<_};
-ghost use lib.ListN.{length};
 ghost use Rattle.join_levels.specs.Levels.{Profiled};
-ghost use Rattle.template_entries.specs.Table.{entryWidth};
-ghost use Rattle.template_entries.specs.Rows.{membersOf};
-ghost use Rattle.process_steps.specs.Steps.{EntryThere};
-ghost use Rattle.process_sizes.specs.Contracts.{AskSteps, SizesSteps, AskAt, WindowlessAt, RowsAt, ProfileAt, stepRows, AddsRows, ProfilesAlone, MeasuresAlone, AskStep, MeasuresStep, MeasuresSteps};
+ghost use Rattle.process_rows.specs.Contracts.{AskSteps, AskAt};
+ghost use Rattle.process_sizes.specs.Contracts.{SizesSteps, ProfileAt, ProfilesAlone, MeasuresAlone, AskStep, MeasuresStep, MeasuresSteps};
 use join_levels::Answer;
-use join_levels::LEVELS;
 use join_levels::Profile;
+use join_table::LEVELS;
 use process_steps::Step;
 use record::Encoding;
 use record_room::Size;
-
-// Whether the encoding that begins at a place has no windows; where there is none, there are none.
-fn is_windowless(nodes: &[u32], at: usize) -> bool
-    requires { ⌜ AskAt (now nodes) at ⌝ }
-    ensures { λ r. ⌜ WindowlessAt (now (nodes .entry)) at r ⌝ }
-{
-    if at < nodes.len() {
-        return nodes[at + 1] == 0;
-    }
-    true
-}
-
-// The rows of the encoding that begins at a place, those of its windows not counted; none where there is no encoding.
-fn rows_at(nodes: &[u32], at: usize) -> u32
-    requires { ⌜ AskAt (now nodes) at ⌝ }
-    ensures { λ r. ⌜ RowsAt (now (nodes .entry)) at r ⌝ }
-{
-    if at < nodes.len() {
-        return nodes[at];
-    }
-    0
-}
-
-// The rows of an entry of the special table: one for each of its members.
-fn rows_of_entry(entries: &[u32], entry: u32) -> u32
-    requires { ⌜ entry < length (now entries) / entryWidth ⌝ }
-    ensures { λ r. ⌜ r ≡ membersOf (now (entries .entry)) entry .count ⌝ }
-{
-    let members = template_entries::members_of(entries, entry as usize);
-    members.count
-}
-
-// The rows of what a step joins, from those of the two encodings.
-fn rows_of(entries: &[u32], step: Step, first: u32, second: u32) -> u32
-    requires { ⌜ EntryThere (now entries) step ⌝ }
-    ensures { λ r. ⌜ r ≡ stepRows (now (entries .entry)) first second step ⌝ }
-{
-    match step {
-        Step::First(_) => first,
-        Step::Second(_) => second,
-        Step::Special(_, entry) => rows_of_entry(entries, entry),
-    }
-}
-
-// The rows of what the steps give of encodings without windows.
-fn rows_of_steps(
-    nodes: &[u32],
-    second: usize,
-    entries: &[u32],
-    steps: &[u32],
-    count: usize,
-) -> usize
-    requires { ⌜ AskSteps (now nodes) second (now entries) (now steps) count ⌝ }
-    ensures { λ r. ⌜ AddsRows (now (nodes .entry)) second (now (entries .entry)) (now (steps .entry)) count r ⌝ }
-{
-    let of_first = rows_at(nodes, 0);
-    let of_second = rows_at(nodes, second);
-    let mut rows: usize = 0;
-    let mut i: usize = 0;
-    while i < count {
-        let step = process_steps::step_at(steps, i);
-        rows += lists::wide(rows_of(entries, step, of_first, of_second));
-        i += 1;
-    }
-    rows
-}
 
 // The profile of the encoding that begins at a place; that of the empty one where there is none.
 fn profile_of(nodes: &[u32], at: usize) -> Profile
@@ -132,7 +61,10 @@ fn with_step(
     match step {
         Step::First(_) => join_levels::joined_profile(so_far, first),
         Step::Second(_) => join_levels::joined_profile(so_far, second),
-        Step::Special(_, entry) => with_special(so_far, lists::wide(rows_of_entry(entries, entry))),
+        Step::Special(_, entry) => with_special(
+            so_far,
+            lists::wide(process_rows::rows_of_entry(entries, entry)),
+        ),
     }
 }
 
@@ -178,9 +110,9 @@ pub fn size_of_steps(
     requires { ⌜ AskSteps (now nodes) second (now entries) (now steps) count ⌝ }
     ensures { λ r. ⌜ SizesSteps (now (nodes .entry)) second (now (entries .entry)) (now (steps .entry)) count r ⌝ }
 {
-    if is_windowless(nodes, 0) {
-        if is_windowless(nodes, second) {
-            let rows = rows_of_steps(nodes, second, entries, steps, count);
+    if process_rows::is_windowless(nodes, 0) {
+        if process_rows::is_windowless(nodes, second) {
+            let rows = process_rows::rows_of_steps(nodes, second, entries, steps, count);
             return Size {
                 fits: rows <= Encoding::MOST_ROWS,
                 nodes: 1,

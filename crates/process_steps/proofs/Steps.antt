@@ -12,7 +12,8 @@ use Rattle.record.specs.Tree.{Encoding}
 use Rattle.template_text.specs.Template.{pieceWidth}
 use Rattle.process_steps.specs.declared.Step.{Step}
 use Rattle.process_steps.specs.declared.Step.the-variants.{First, Second, Special}
-use Rattle.process_steps.specs.Steps.{stepNumbers, stepAt, StepsAt, StepFine, EntryThere}
+use Rattle.process_steps.specs.Steps.{stepNumbers, stepAt}
+use Rattle.process_steps.specs.Contracts.{StepsAt, StepFine, EntryThere}
 
 step-long : (s : Step) → length (stepNumbers s) ≡ pieceWidth
 step-long (First t) = refl

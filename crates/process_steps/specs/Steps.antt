@@ -1,15 +1,13 @@
 -- The steps by which a template is applied: its pieces in numbers, each special id replaced by the number of its entry.
 -- Assumes nothing: these are definitions.
-use mathlib.Core.Path.{_≡_}
 use mathlib.Core.Bool.{cond}
 use mathlib.Core.Option.{Option, none as nothing, some}
-use mathlib.Core.List.{List, [], _∷_, _++_, flatMap}
-use Prim.Native.Nat.{ℕ, _+_, _/_, _<_}
+use mathlib.Core.List.{List, [], _∷_}
+use Prim.Native.Nat.{ℕ, _+_}
 use lib.Dec.{eqb}
-use lib.ListN.{length, getD}
+use lib.ListN.{getD}
 use Rattle.record.specs.Tree.{Encoding, empty}
-use Rattle.template_entries.specs.Table.{entryWidth}
-use Rattle.template_entries.specs.Rows.{specialEncoding, entryMembers, MembersThere}
+use Rattle.template_entries.specs.Rows.{specialEncoding, entryMembers}
 use Rattle.join_view.specs.declared.View.the-variants.{Piece as PieceView}
 use Rattle.join_view.specs.View.{seen}
 use Rattle.process_steps.specs.declared.Step.{Step}
@@ -27,11 +25,6 @@ stepNumbers (Special t entry) = 2 ∷ t ∷ entry ∷ 0 ∷ []
 unfoldable pub stepAt : List ℕ → ℕ → Step
 stepAt l at = cond (eqb (getD l at 0) 0) (First (getD l (at + 1) 0)) (cond (eqb (getD l at 0) 1) (Second (getD l (at + 1) 0)) (Special (getD l (at + 1) 0) (getD l (at + 2) 0)))
 
--- The numbers begin with these steps.
-pub record StepsAt (numbers : List ℕ) (steps : List Step) : Type 0 where
-  pub rest : List ℕ
-  pub is : numbers ≡ flatMap stepNumbers steps ++ rest
-
 -- ---- What a step joins
 
 abbrev pub secondOr : Option Encoding → Encoding
@@ -43,16 +36,3 @@ abbrev pub stepEncoding : List ℕ → List ℕ → Encoding → Option Encoding
 stepEncoding entries members E second (First t) = seen (PieceView 0 t) E
 stepEncoding entries members E second (Second t) = seen (PieceView 1 t) (secondOr second)
 stepEncoding entries members E second (Special t entry) = specialEncoding t (entryMembers entries members entry)
-
--- the second encoding is there, the entry and its members are those of the table
-abbrev pub StepFine : List ℕ → List ℕ → Option Encoding → Step → Type 0
-StepFine entries members second (First t) = Unit {0}
-StepFine entries members nothing (Second t) = ⊥
-StepFine entries members (some F) (Second t) = Unit {0}
-StepFine entries members second (Special t entry) = MembersThere entries members entry
-
--- the entry is one of the table, whatever its members are
-abbrev pub EntryThere : List ℕ → Step → Type 0
-EntryThere entries (First t) = Unit {0}
-EntryThere entries (Second t) = Unit {0}
-EntryThere entries (Special t entry) = entry < length entries / entryWidth

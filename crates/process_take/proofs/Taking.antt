@@ -11,8 +11,8 @@ use Rattle.record.specs.Standing.{Here}
 use Rattle.record.specs.declared.Spot.{Spot}
 use Rattle.process_steps.specs.declared.Step.{Step}
 use Rattle.process_steps.specs.declared.Step.the-variants.{First, Second, Special}
-use Rattle.process_steps.specs.Steps.{secondOr, StepFine, EntryThere}
-use Rattle.process_steps.specs.Standing.{Inputs}
+use Rattle.process_steps.specs.Steps.{secondOr}
+use Rattle.process_steps.specs.Contracts.{StepFine, EntryThere, Inputs}
 use Rattle.process_steps.proofs.Steps.{fine-there}
 use Rattle.fold_over.specs.Contracts.{AskStep, WritesStep}
 use Rattle.process_special.specs.Contracts.{AskSpecial, AppendsSpecial}

@@ -12,8 +12,8 @@ use Rattle.join_trees.specs.Join.{join}
 use Rattle.join_trees.specs.Offsets.{joinFits}
 use Rattle.record.specs.declared.Spot.{Spot}
 use Rattle.process_steps.specs.declared.Step.{Step}
-use Rattle.process_steps.specs.Steps.{StepFine, stepEncoding}
-use Rattle.process_steps.specs.Standing.{Inputs}
+use Rattle.process_steps.specs.Contracts.{StepFine, Inputs}
+use Rattle.process_steps.specs.Steps.{stepEncoding}
 
 -- S stands at the front of the output; its join with what the step speaks of has room in the output and in the working
 -- store, and its offsets stay within 32 bits.

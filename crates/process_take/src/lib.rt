@@ -1,6 +1,6 @@
 // One step of a template taken: what it speaks of, joined to the encoding in the output (document 01, module 9).
 ghost use mathlib.Core.Path.{_≡_};
-ghost use Rattle.process_steps.specs.Steps.{EntryThere};
+ghost use Rattle.process_steps.specs.Contracts.{EntryThere};
 ghost use Rattle.process_take.specs.Contracts.{AskTake, TakesStep};
 ghost use Rattle.process_take.specs.Operand.{operandOf};
 use join_view::View;

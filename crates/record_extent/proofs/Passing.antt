@@ -11,7 +11,8 @@ use Rattle.record.specs.Tree.{Row, Range, Forest, none, node, tops, sequences}
 use Rattle.record.specs.Flat.{nodeWidth, rangeNumbers, flatNodes}
 use Rattle.record.specs.WellFormed.{nodesIn, rowsIn, levels, mostNodes}
 use Rattle.record.proofs.Flat.{length-numbers, range-stored, drop-node, length-nodes}
-use Rattle.record_extent.specs.Size.{extent, sizeOf, Stands, withNode, Few}
+use Rattle.record_extent.specs.Size.{extent, sizeOf}
+use Rattle.record_extent.specs.Contracts.{Stands, withNode, Few}
 use Rattle.record_extent.specs.declared.Extent.{Extent}
 
 -- where the encodings after the first so many stand
@@ -44,21 +45,23 @@ module _ {nodes : List ℕ} {at k : ℕ} {r : List Row} {q : List Range} {w x : 
 
   numbers : List ℕ
   unfolding flatNodes
-  numbers = flatMap rangeNumbers q ++ (flatNodes w ++ (flatNodes x ++ h .rest))
+  numbers = flatMap rangeNumbers q ++ (flatNodes w ++ (flatNodes x ++ h .there .rest))
 
   stands-is : drop at nodes ≡ length r ∷ tops w ∷ numbers
   unfolding flatNodes numbers
-  stands-is = h .is ∙ simp append-assoc
+  stands-is = h .there .is ∙ simp append-assoc
 
   pub next : Next nodes at w (length r)
   unfolding flatNodes numbers
   next =
       record {
-        long = omega (arith, ap length stands-is, length-drop at nodes, ranges-long, length-append (flatMap rangeNumbers q) (flatNodes w ++ (flatNodes x ++ h .rest)));
+        long = omega (arith, ap length stands-is, length-drop at nodes, ranges-long, length-append (flatMap rangeNumbers q) (flatNodes w ++ (flatNodes x ++ h .there .rest)));
         size = simp (getD-drop, add-zero) at (ap (λ (l : List ℕ). getD l 0 0) stands-is);
         below = record {
-          rest = flatNodes x ++ h .rest;
-          is = sym (drop-drop nodeWidth at nodes) ∙ ap (drop nodeWidth) stands-is ∙ drop-node (length r) (tops w) numbers ∙ drop-at (flatMap rangeNumbers q) _ (sequences * 3) ranges-long;
+          there = record {
+            rest = flatNodes x ++ h .there .rest;
+            is = sym (drop-drop nodeWidth at nodes) ∙ ap (drop nodeWidth) stands-is ∙ drop-node (length r) (tops w) numbers ∙ drop-at (flatMap rangeNumbers q) _ (sequences * 3) ranges-long;
+          };
           counts = sym (simp getD-drop at (ap (λ (l : List ℕ). getD l 1 0) stands-is));
           fine = h .fine .1;
           few-nodes = omega (arith, h .few-nodes);
@@ -73,8 +76,10 @@ module _ {nodes : List ℕ} {at k : ℕ} {r : List Row} {q : List Range} {w x : 
       let b = next .below in
       let e : at + (nodesIn w + 1) * nodeWidth ≡ at + nodeWidth + nodesIn w * nodeWidth = omega arith in
       record {
-        rest = h .rest;
-        is = ap (λ (i : ℕ). drop i nodes) e ∙ sym (drop-drop (nodesIn w * nodeWidth) (at + nodeWidth) nodes) ∙ ap (drop (nodesIn w * nodeWidth)) (b .is) ∙ drop-at (flatNodes w) _ (nodesIn w * nodeWidth) (length-nodes w (b .fine));
+        there = record {
+          rest = h .there .rest;
+          is = ap (λ (i : ℕ). drop i nodes) e ∙ sym (drop-drop (nodesIn w * nodeWidth) (at + nodeWidth) nodes) ∙ ap (drop (nodesIn w * nodeWidth)) (b .there .is) ∙ drop-at (flatNodes w) _ (nodesIn w * nodeWidth) (length-nodes w (b .fine));
+        };
         counts = omega (arith, h .counts);
         fine = h .fine .2;
         few-nodes = omega (arith, h .few-nodes);

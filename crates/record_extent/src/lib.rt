@@ -1,7 +1,8 @@
 // How much a batch holds, windows included, and whether a result has room: what refusal 2 asks before anything is written.
 ghost use mathlib.Core.Path.{_≡_};
 ghost use Rattle.record.specs.Tree.{Forest};
-ghost use Rattle.record_extent.specs.Size.{Stands, sizeOf, Few, withNode, within, roomy};
+ghost use Rattle.record_extent.specs.Contracts.{Stands, Few, withNode};
+ghost use Rattle.record_extent.specs.Size.{sizeOf, within, roomy};
 use record::Encoding;
 use record_room::Size;
 

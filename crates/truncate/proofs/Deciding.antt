@@ -20,7 +20,8 @@ use Rattle.cut_plan.specs.declared.Direction.{Direction}
 use Rattle.record_extent.specs.declared.Extent.{Extent}
 use Rattle.record_extent.proofs.Stands.{here-stands}
 use Rattle.record_extent.proofs.Room.{room-by-size, roomy-fits}
-use Rattle.record_extent.specs.Size.{sizeOf, Stands, roomy}
+use Rattle.record_extent.specs.Size.{sizeOf, roomy}
+use Rattle.record_extent.specs.Contracts.{Stands}
 use Rattle.truncate_size.specs.Size.{sizeAfter, strideRefused}
 use Rattle.truncate.specs.Truncate.{cutOutcome, truncateOutcome}
 use Rattle.truncate_write.specs.Truncated.{truncated}

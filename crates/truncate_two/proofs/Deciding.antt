@@ -23,12 +23,12 @@ use Rattle.truncate_size.specs.Size.{sizeAfter, strideRefused}
 use Rattle.truncate_write.specs.Truncated.{truncated}
 use Rattle.truncate_write.proofs.Sizes.{truncated-size}
 use Rattle.truncate_write.proofs.Fineness.{truncated-fine}
-use Rattle.truncate_two.specs.Size.{together}
-use Rattle.truncate_two.specs.Contracts.{Small, Two, AskTwo, Pair}
+use Rattle.truncate_two.specs.Contracts.{together, Small, Pair}
+use Rattle.truncate_both.specs.Contracts.{Two, AskTwo}
 use Rattle.truncate_two.specs.CutBoth.{cutBothOutcome}
 use Rattle.record_extent.proofs.Pair.{pair-here, few-held, second-here}
 use Rattle.truncate_two.proofs.Sizes.{together-size, after-small}
-use Rattle.truncate_two.proofs.Placing.{first-size}
+use Rattle.truncate_both.proofs.Placing.{first-size}
 
 -- ---- Where they stand
 

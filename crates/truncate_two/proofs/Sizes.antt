@@ -16,8 +16,7 @@ use Rattle.record_extent.specs.declared.Extent.{Extent}
 use Rattle.truncate_size.specs.Size.{sizeCut, sizeAfter}
 use Rattle.truncate_size.proofs.Counted.{counted}
 use Rattle.truncate_write.proofs.Sizes.{same-extent}
-use Rattle.truncate_two.specs.Size.{together}
-use Rattle.truncate_two.specs.Contracts.{Small}
+use Rattle.truncate_two.specs.Contracts.{together, Small}
 
 pub together-size : (E F : Encoding) → sizeOf (forest (E ∷ F ∷ [])) ≡ together (sizeOf (forest (E ∷ []))) (sizeOf (forest (F ∷ [])))
 together-size E F = same-extent (omega arith) (omega arith) (omega arith)

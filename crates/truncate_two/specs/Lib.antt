@@ -1,3 +1,2 @@
 pub mod CutBoth
-pub mod Size
 pub mod Contracts

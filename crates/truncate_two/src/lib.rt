@@ -1,8 +1,7 @@
 // Two encodings, each cut to a number of rows, one after the other (document 01, "Truncate pair").
 ghost use mathlib.Core.Path.{_≡_};
-ghost use Rattle.truncate_two.specs.Contracts.{Small, AskTwo, MakesTwo, AskPair, BecomesPair};
+ghost use Rattle.truncate_two.specs.Contracts.{Small, AskPair, BecomesPair, together};
 ghost use Rattle.truncate_two.specs.CutBoth.{cutBothOutcome};
-ghost use Rattle.truncate_two.specs.Size.{together};
 use cut_plan::Direction;
 use record::Encoding;
 use record::Refusal;
@@ -41,7 +40,7 @@ pub fn cut_two(
     if !record_extent::has_room(size, out_nodes.len(), out_rows.len()) {
         return Written::Refused(Refusal::NoRoom);
     }
-    write_two(
+    truncate_both::write_two(
         nodes,
         rows,
         own,
@@ -70,53 +69,4 @@ fn both(first: Extent, second: Extent) -> Extent
         rows: first.rows + second.rows,
         levels: lists::larger(first.levels, second.levels),
     }
-}
-
-// The two encodings at the front, which hold `own` and `other`, cut: the first holds `kept` then, and the second is
-// written after that.
-fn write_two(
-    nodes: &[u32],
-    rows: &[u32],
-    own: Extent,
-    other: Extent,
-    kept: Extent,
-    n: u32,
-    m: u32,
-    stride: u32,
-    direction: Direction,
-    out_nodes: &mut [u32],
-    out_rows: &mut [u32],
-)
-    requires { ⌜ AskTwo (now nodes) (now rows) own other kept n m stride (now «out_nodes») (now «out_rows») ⌝ }
-    ensures { λ _. ⌜ MakesTwo (now (nodes .entry)) (now (rows .entry)) own other kept n m stride direction
-        (now («out_nodes» .entry)) (now («out_rows» .entry)) (now («out_nodes» .exit)) (now («out_rows» .exit)) ⌝ }
-{
-    truncate_write::write_truncated(
-        nodes,
-        0,
-        rows,
-        0,
-        own,
-        n,
-        stride,
-        direction,
-        out_nodes,
-        0,
-        out_rows,
-        0,
-    );
-    truncate_write::write_truncated(
-        nodes,
-        own.nodes * Encoding::NODE_WIDTH,
-        rows,
-        own.rows * Encoding::ROW_WIDTH,
-        other,
-        m,
-        stride,
-        direction,
-        out_nodes,
-        kept.nodes * Encoding::NODE_WIDTH,
-        out_rows,
-        kept.rows * Encoding::ROW_WIDTH,
-    );
 }

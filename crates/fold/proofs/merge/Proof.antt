@@ -10,7 +10,7 @@ use Rattle.record.specs.WellFormed.{Stores}
 use Rattle.record.specs.declared.Refusal.the-variants.{MalformedRecord, NoRoom}
 use Rattle.join_trees.specs.Join.{fold}
 use Rattle.join_trees.specs.Offsets.{foldFits}
-use Rattle.join_size.specs.Sizes.{Sizes}
+use Rattle.join_size.specs.Contracts.{Sizes}
 use Rattle.record_room.specs.Room.{hasRoom}
 use Rattle.record.proofs.Working.{zeroed-kept, with-refused, with-zeros}
 use Rattle.fold.proofs.Deciding.{outcome-malformed, batch-there, outcome-no-room, outcome-no-working, outcome-too-large, fold-asks, fold-writes}

@@ -14,7 +14,7 @@ use Rattle.join_trees.specs.Offsets.{joinFits}
 use Rattle.join_trees.proofs.Outcomes.{join-malformed-first, join-malformed-second}
 use Rattle.record.proofs.Working.{writes-zeros}
 use Rattle.join_levels_stored.proofs.Totals.{one-stands}
-use Rattle.join_size.specs.Sizes.{Sizes}
+use Rattle.join_size.specs.Contracts.{Sizes}
 use Rattle.record_room.specs.Room.{hasRoom}
 use Rattle.join.proofs.Deciding.{one-here, outcome-no-room, outcome-too-large, join-asks, join-writes}
 use Rattle.join.proofs.merge_with.Statement.{statement}

@@ -5,9 +5,8 @@ use native.Mathlib.Omega.{arith}
 use mathlib.Core.Path.{_≡_, sym}
 use Prim.Native.Nat.{_+_, _-_, _≤_}
 use borrow.Author.Tests.{le-leb, lt-leb}
-use Rattle.join_levels.specs.Levels.{at}
-use Rattle.join_levels.specs.Table.{below}
-use Rattle.join_levels.proofs.Numbers.{below-past, below-left, below-end}
+use Rattle.join_table.specs.Table.{at, below}
+use Rattle.join_table.proofs.Numbers.{below-past, below-left, below-end}
 use Rattle.join_levels.proofs.within.Statement.{statement}
 use Rattle.join_levels.proofs.within.Tie as tie
 

@@ -9,7 +9,7 @@ use denote.Ref.{now}
 use borrow.Author.Needs.{needs}
 use Rattle.record.specs.Tree.{Encoding}
 use Rattle.record.specs.WellFormed.{mostNodes, mostRows}
-use Rattle.join_levels.specs.Levels.{levelCount, at}
+use Rattle.join_table.specs.Table.{levelCount, at}
 use Rattle.join_levels_stored.specs.Contracts.{EncodingAt}
 use Rattle.join_levels_stored.proofs.Opened.{Left, Due, left-start, left-depth, left-pop, due, due-few-nodes, due-few-rows, due-next, left-end}
 use Rattle.join_levels_stored.proofs.profile_at.Statement.{statement}

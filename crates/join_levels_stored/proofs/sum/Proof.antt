@@ -4,9 +4,8 @@ use Prim.Native.Nat.{_-_, _*_, _≤_}
 use native.Mathlib.Omega.{arith}
 use borrow.Author.Needs.{needs}
 use Rattle.record.specs.WellFormed.{mostRows}
-use Rattle.join_levels.specs.Levels.{levelCount, at}
-use Rattle.join_levels.specs.Table.{below}
-use Rattle.join_levels.proofs.Numbers.{below-next}
+use Rattle.join_table.specs.Table.{levelCount, at, below}
+use Rattle.join_table.proofs.Numbers.{below-next}
 use Rattle.join_levels_stored.proofs.sum.Statement.{statement}
 use Rattle.join_levels_stored.proofs.sum.Tie as tie
 

@@ -11,12 +11,12 @@ use Rattle.record.specs.Tree.{Encoding}
 use Rattle.record.specs.declared.Refusal.the-variants.{NoRoom}
 use Rattle.join_trees.specs.Join.{fold}
 use Rattle.record_room.specs.Room.{hasRoom}
-use Rattle.join_size.specs.Sizes.{Sizes}
+use Rattle.join_size.specs.Contracts.{Sizes}
 use Rattle.record.proofs.Working.{zeroed-kept, with-refused}
 use Rattle.process_steps.specs.declared.Step.{Step}
 use Rattle.process_steps.specs.Steps.{stepEncoding}
-use Rattle.process_steps.specs.Standing.{StepsHere}
-use Rattle.process_apply.specs.Contracts.{Ready}
+use Rattle.process_steps.specs.Contracts.{StepsHere}
+use Rattle.process_write.specs.Contracts.{Ready}
 use Rattle.process_apply.proofs.Deciding.{steps-of, outcome-no-room, outcome-no-working, steps-ready, steps-done}
 use Rattle.process_apply.proofs.apply_steps.Statement.{statement}
 use Rattle.process_apply.proofs.apply_steps.Tie as tie

@@ -12,7 +12,7 @@ use Rattle.record.proofs.OneOrTwo.{one-or-two-there}
 use Rattle.template_text.specs.Template.{readTemplate}
 use Rattle.template_entries.specs.Table.{Special, sound, readTable}
 use Rattle.template_table.proofs.Table.{answer-sound, answer-refused}
-use Rattle.process_steps.specs.Standing.{Inputs}
+use Rattle.process_steps.specs.Contracts.{Inputs}
 use Rattle.process_check.specs.Contracts.{usability}
 use Rattle.process_check.specs.Process.{whichFor, textFor}
 use Rattle.process_check.proofs.Inputs.{hasSecond, second-told}

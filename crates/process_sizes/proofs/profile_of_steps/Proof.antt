@@ -10,10 +10,11 @@ use Rattle.record.specs.Tree.{Encoding}
 use Rattle.join_levels.proofs.Limits.{refuses, answers}
 use Rattle.process_steps.specs.declared.Step.{Step}
 use Rattle.process_steps.specs.Steps.{stepEncoding}
-use Rattle.process_sizes.specs.Contracts.{StepsOf}
+use Rattle.process_rows.specs.Contracts.{StepsOf}
 use Rattle.process_sizes.proofs.Places.{place-profiled}
-use Rattle.process_sizes.proofs.Walked.{Walked, walked-start, steps-inside, walked-end}
-use Rattle.process_sizes.proofs.Turns.{Within, step-there, profile-more, profile-stop}
+use Rattle.process_rows.proofs.Walked.{Walked, walked-start, steps-inside, walked-end}
+use Rattle.process_sizes.proofs.Turns.{Within, profile-more, profile-stop}
+use Rattle.process_rows.proofs.Turns.{step-there}
 use Rattle.process_sizes.proofs.profile_of_steps.Statement.{statement}
 use Rattle.process_sizes.proofs.profile_of_steps.Tie as tie
 

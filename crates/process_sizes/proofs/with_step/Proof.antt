@@ -1,7 +1,7 @@
 -- `with_step` measures the join with what each kind of step joins. Assumes nothing.
 use mathlib.Core.Path.{_∙_, subst}
 use borrow.Author.Needs.{needs}
-use Rattle.process_steps.specs.Steps.{EntryThere}
+use Rattle.process_steps.specs.Contracts.{EntryThere}
 use Rattle.process_sizes.proofs.Profiles.{first-joined, second-joined, special-joined}
 use Rattle.process_sizes.proofs.with_step.Statement.{statement}
 use Rattle.process_sizes.proofs.with_step.Tie as tie

@@ -2,7 +2,7 @@
 use mathlib.Core.Path.{sym, ap, _∙_, subst}
 use borrow.Author.Needs.{needs}
 use Rattle.template_entries.specs.declared.Members.{Members}
-use Rattle.process_steps.specs.Steps.{EntryThere}
+use Rattle.process_steps.specs.Contracts.{EntryThere}
 use Rattle.process_take.specs.Operand.{operandOf}
 use Rattle.process_take.specs.declared.Operand.the-variants.{Special}
 use Rattle.process_take.proofs.operand_of.Statement.{statement}

@@ -6,7 +6,7 @@ use Prim.Native.Nat.{ℕ, _-_, _<_}
 use mathlib.Core.Path.{_≡_, sym, ap₂, subst, _∙_}
 use lib.ListN.{length}
 use Rattle.record.specs.Tree.{Forest}
-use Rattle.record_extent.specs.Size.{Stands, withNode}
+use Rattle.record_extent.specs.Contracts.{Stands, withNode}
 use Rattle.record_extent.proofs.Passing.{Passed, passed-none, Turn, turn, passed-all}
 use borrow.Fn.Kinds.{In}
 use borrow.Fn.PlainCycle.{Measures, is, falls, and}

@@ -17,8 +17,8 @@ use Rattle.record_extent.specs.Size.{sizeOf}
 use Rattle.record_extent.proofs.Stands.{here-stands}
 use Rattle.truncate_size.specs.Size.{sizeAfter, strideRefused}
 use Rattle.truncate_size.proofs.Counted.{here-fitting}
-use Rattle.truncate_two.specs.Size.{together}
-use Rattle.truncate_two.specs.Contracts.{Two, Pair}
+use Rattle.truncate_two.specs.Contracts.{together, Pair}
+use Rattle.truncate_both.specs.Contracts.{Two}
 use Rattle.record_extent.proofs.Pair.{first-here, few-held}
 use Rattle.truncate_two.proofs.Deciding.{here-small, other-here, other-rows, first-refused, second-refused, both-two, both-no-room, both-asks, both-writes}
 use Rattle.truncate_two.proofs.cut_two.Statement.{statement}

@@ -1,0 +1,4 @@
+pub mod Places
+pub mod Alone
+pub mod Walked
+pub mod Turns

@@ -1,0 +1,2 @@
+pub mod Encodings
+mod Along
