@@ -373,6 +373,41 @@ fn after(a: &Batch, b: &Batch) -> Batch {
     Batch { nodes: [&a.nodes[..], &b.nodes].concat(), rows: [&a.rows[..], &b.rows].concat() }
 }
 
+/// Folds in which runs of encodings without windows stand at the start, between encodings that have a window and at the end: all
+/// ways to put up to seven one after another, at most three of them with a window. Nodes have no rows up to two, ranges share two ids.
+fn with_runs() -> Vec<Batch> {
+    let mut out = vec![];
+    for (many, code) in (1..=7).flat_map(|many| (0..1u32 << many).map(move |code| (many, code))) {
+        if code.count_ones() > 3 {
+            continue;
+        }
+        let mut shape = vec![];
+        for i in 0..many {
+            let windows = code >> i & 1;
+            shape.push(((i + code) % 3, windows));
+            shape.extend(vec![((i + code / 2) % 3, 0); windows as usize]);
+        }
+        let mut b = exact(&shape);
+        for (i, node) in b.nodes.chunks_mut(NODE).enumerate() {
+            let (id, rows) = (i % 2, node[0]);
+            node[2 + 3 * id..5 + 3 * id].copy_from_slice(&[1, rows / 2, rows]);
+        }
+        for (i, row) in b.rows.chunks_mut(ROW).enumerate() {
+            row[7..9].copy_from_slice(&[3 * i as u32 + 1, 5 * i as u32 + 2]);
+        }
+        out.push(b);
+    }
+    // a run that comes to u32's last number, and one that passes it: on the top, and in the window alone
+    for over in [0, 1] {
+        let run = after(&with_offsets([7, 1 << 31], None), &with_offsets([over, u32::MAX >> 1], None));
+        for first in [with_offsets([0, over], Some([0, 0])), with_offsets([0, 0], Some([0, over]))] {
+            out.push(after(&first, &run));
+            out.push(after(&after(&first, &run), &with_offsets([0, 0], Some([0, 0]))));
+        }
+    }
+    out
+}
+
 fn compare_folds(t: &mut Tally, r: &mut Rng, count: u64) {
     case_fold(t, &Batch::default(), &ALL_STORES);
     let small = all_small(3);
@@ -387,6 +422,9 @@ fn compare_folds(t: &mut Tally, r: &mut Rng, count: u64) {
     }
     for (a, b) in at_the_edge().iter().chain(&joins_at_limits()) {
         case_fold(t, &after(a, b), &ALL_STORES);
+    }
+    for b in with_runs() {
+        case_fold(t, &b, &ALL_STORES);
     }
     for i in 0..count {
         let size = Size { levels: i % 3, windows: 2, rows: 4, offset: 1 << (8 * (i % 5)) };
@@ -435,4 +473,12 @@ fn time_folds() {
         let kept = bench::once(&(), |()| Encoding::merge(e.clone(), true));
         row(what, ours, rust, kept, b.rows.len() / ROW);
     }
+    // the result so far has a window, and nothing that comes after it has
+    let b = after(&with_windows(32_500, 1), &exact(&vec![(0, 0); MAX_NODES - 2]));
+    let e = from_batch(&b.nodes, &b.rows);
+    let mut lent = Lent::new(2 * NODE, b.rows.len());
+    let mut working = Batch { nodes: vec![0; 2 * NODE], rows: vec![0; b.rows.len()] };
+    let ours = bench::few(5, || assert_eq!(lent.merge(black_box(&b), true, &mut working), 0));
+    let rust = bench::few(5, || Encoding::merge(black_box(e.clone()), true));
+    bench::row("fold of 65,000 rows with a window, then 4,094 empty encodings", ours, "Rust", rust, "with a copy of its operands");
 }
