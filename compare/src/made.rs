@@ -21,12 +21,14 @@ pub fn header() -> Made {
 }
 
 /// The replay programs, each with the numbers of the operations whose cases it runs.
-const PROGRAMS: [(&str, &[u32]); 7] = [
+const PROGRAMS: [(&str, &[u32]); 9] = [
     ("replay_lookups", &[1, 2, 3, 4, 6, 7, 8, 9, 10, 11]),
     ("replay_texts", &[14, 15, 17]),
     ("replay_encodings", &[5, 12, 13]),
-    ("replay_cuts", &[16, 20, 21, 22]),
-    ("replay_joins", &[18, 19]),
+    ("replay_cuts", &[16, 20]),
+    ("replay_pads", &[21, 22]),
+    ("replay_joins", &[18]),
+    ("replay_folds", &[19]),
     ("replay_templates", &[23, 24, 25]),
     ("replay_process", &[26]),
 ];

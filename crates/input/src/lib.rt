@@ -1,12 +1,12 @@
-// Standard input and output for programs: lines, gathered from pieces of the input, and bytes printed.
+// Standard input for programs: lines, gathered from pieces of the input.
 //
-// A read that fails is met in `read_piece` alone, a write that fails in `print` and `print_number` alone. A program is a loop
-// over `next_line`.
+// A read that fails is met in `not_read` alone: a line on standard error says so, and why, and no line is found after it, nor
+// one that it cut off. A program is a loop over `next_line`.
+ghost use mathlib.Core.Bool.{true, false};
 ghost use mathlib.Core.Path.{_≡_};
 ghost use Prim.Native.Nat.{_≤_};
 ghost use Rattle.io.specs.Counts.{Counts};
 use libc::STDIN_FILENO;
-use libc::STDOUT_FILENO;
 
 const NEWLINE: u8 = b'\n';
 
@@ -14,7 +14,7 @@ const NEWLINE: u8 = b'\n';
 pub const PIECE: usize = 65536;
 
 // What is read and not yet taken: the bytes of the piece from `at` up to `end`. The input is open until a read gives nothing,
-// because it has ended or because it failed.
+// because the input has ended or because the read failed.
 pub struct Unread {
     pub at: usize,
     pub end: usize,
@@ -53,6 +53,7 @@ pub fn start() -> Unread
 // The next line, without its newline, put at the start of `line`. The last one may lack its newline.
 pub fn next_line(piece: &mut [u8; PIECE], line: &mut [u8], before: Unread) -> Line
     ensures { λ r. ⌜ Counts (r .held) (now (line .exit)) ⌝ }
+    ensures { λ r. ⌜ (r .found ≡ true → r .unread .failed ≡ false) ⌝ }
 {
     let gathered = gather(piece, line, before);
     told(line, gathered)
@@ -80,12 +81,29 @@ fn gather(piece: &mut [u8; PIECE], line: &mut [u8], before: Unread) -> Gathered 
 // The next bytes of the input.
 fn read_piece(piece: &mut [u8; PIECE]) -> Unread {
     let got = libc::read(STDIN_FILENO, piece);
+    if got < 0 {
+        return not_read();
+    }
     let end = io::count(got, piece);
     Unread {
         at: 0,
         end,
         open: end > 0,
-        failed: got < 0,
+        failed: false,
+    }
+}
+
+// After a read that gave an error: nothing is read, and the next turn reads again, or the input has failed.
+fn not_read() -> Unread {
+    let again = input_output::again(os::errno());
+    if !again {
+        os::fail(b"standard input");
+    }
+    Unread {
+        at: 0,
+        end: 0,
+        open: again,
+        failed: !again,
     }
 }
 
@@ -122,12 +140,21 @@ fn taken(ended: bool, held: usize, at: usize, before: Unread) -> Gathered {
     }
 }
 
-// There is a line if its newline has come, or bytes with none after them.
+// There is a line if its newline has come, or bytes with none after them. What a failed read cut off is none.
 fn told(line: &[u8], gathered: Gathered) -> Line
     ensures { λ r. ⌜ Counts (r .held) (now (line .entry)) ⌝ }
+    ensures { λ r. ⌜ (r .found ≡ true → r .unread .failed ≡ false) ⌝ }
 {
     let held = gathered.held;
     let unread = gathered.unread;
+    if unread.failed {
+        return Line {
+            found: false,
+            long: false,
+            held: 0,
+            unread,
+        };
+    }
     let found = gathered.ended || held > 0;
     if held > line.len() {
         return Line {
@@ -143,14 +170,4 @@ fn told(line: &[u8], gathered: Gathered) -> Line
         held,
         unread,
     }
-}
-
-// Writes bytes to standard output.
-pub fn print(bytes: &[u8]) {
-    io::write_all(STDOUT_FILENO, bytes);
-}
-
-// Writes a number to standard output, in decimal.
-pub fn print_number(number: u64) {
-    io::print_decimal(STDOUT_FILENO, number);
 }

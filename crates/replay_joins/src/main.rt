@@ -1,66 +1,47 @@
-// Replays the stored cases of `merge_with` and `merge`, each called through the C interface (`replay_program` says what a case is,
-// `replay_outputs` what its answers are). The line above each function is its whole case.
+// Replays the stored cases of the operation that joins two encodings, called through the C interface (`replay_program` says what
+// a case is, `replay_outputs` what its answers are). The line above its function is its whole case.
+ghost use Prim.Native.Nat.{_≤_};
 ghost use lib.ListN.{length};
-ghost use Rattle.io.specs.Counts.{Counts};
 ghost use Rattle.replay_program.specs.Contracts.{Inside};
-use input::Line;
 use input::PIECE;
 use replay_answers::Outcome;
 use replay_outputs::BEFORE;
 use replay_outputs::BEFORE_COUNT;
 use replay_outputs::OUTPUT;
-use replay_outputs::WORKING;
 use replay_program::Case;
 use replay_program::LINE;
 use replay_program::NUMBERS;
 
-// Operation numbers, the first number of each case.
+// The operation's number, the first number of each case.
 const MERGE_WITH: u32 = 18;
-
-const MERGE: u32 = 19;
-
-// What stands in each number of a working store before a call.
-const LENT: u32 = 7;
 
 fn main() {
     let mut piece = [0u8; PIECE];
     let mut line = [0u8; LINE];
-    replay_input(&mut piece, &mut line);
+    let mut numbers = [0u32; NUMBERS];
+    replay_input(&mut piece, &mut line, &mut numbers);
 }
 
-// Replays all of the input. A proved loop has to end, and nothing says that an input does: so the turns are counted down, from
-// a number that no run uses up.
-fn replay_input(piece: &mut [u8; PIECE], line: &mut [u8; LINE]) {
-    let mut progress = replay_program::start();
+// Replays all of the input, up to a read or a write that fails. A proved loop has to end, and nothing says that an input does:
+// so the turns are counted down, from a number that no run uses up.
+fn replay_input(piece: &mut [u8; PIECE], line: &mut [u8; LINE], numbers: &mut [u32; NUMBERS]) {
+    let mut progress = replay_counts::start();
     let mut unread = input::start();
     let mut turns = u64::MAX;
     while turns > 0 {
-        let next = input::next_line(piece, line, unread);
+        let next = replay_program::next_case(piece, line, numbers, unread);
         unread = next.unread;
         if !next.found {
             break;
         }
-        progress = replay_program::counted(progress, replay_line(line, next));
+        let case = next.case;
+        progress = replay_counts::counted(progress, replay_parts(case, numbers));
+        if progress.failed {
+            break;
+        }
         turns -= 1;
     }
-    replay_program::print_counts(progress, unread);
-}
-
-// Runs the case that a line holds. A line longer than its buffer is bad.
-fn replay_line(line: &[u8], next: Line) -> Outcome
-    requires { ⌜ Counts (next .held) (now line) ⌝ }
-{
-    if next.long {
-        return Outcome::Bad;
-    }
-    let held = next.held;
-    replay_case(&line[..held])
-}
-
-fn replay_case(line: &[u8]) -> Outcome {
-    let mut numbers = [0u32; NUMBERS];
-    let case = replay_program::read_case(line, &mut numbers);
-    replay_parts(case, &numbers)
+    replay_counts::print_counts(progress, unread);
 }
 
 fn replay_parts(case: Case, numbers: &[u32]) -> Outcome
@@ -87,133 +68,45 @@ fn replay_parts(case: Case, numbers: &[u32]) -> Outcome
 
 // `rest` is what follows the two lists in the case.
 fn replay(operation: u32, nodes: &[u32], rows: &[u32], rest: &[u32]) -> Outcome {
-    let at = answers_at(operation, rest);
-    if rest.len() < at {
+    if operation != MERGE_WITH {
         return Outcome::Bad;
     }
-    let mut out_nodes = [BEFORE; OUTPUT];
-    let mut out_rows = [BEFORE; OUTPUT];
-    written(
-        operation,
-        nodes,
-        rows,
-        rest,
-        &rest[at..],
-        &mut out_nodes,
-        &mut out_rows,
-    )
-}
-
-// As many numbers are lent as the lists of the answers have.
-fn written(
-    operation: u32,
-    nodes: &[u32],
-    rows: &[u32],
-    rest: &[u32],
-    answers: &[u32],
-    out_nodes: &mut [u32],
-    out_rows: &mut [u32],
-) -> Outcome {
-    let node_numbers = replay_outputs::length_at(answers, 3, out_nodes);
-    let stored_nodes = replay_cases::list_at(answers, 3);
-    let row_numbers = replay_outputs::length_at(answers, stored_nodes.end, out_rows);
-    let mut counts = [BEFORE_COUNT; 2];
-    let refusal = write(
-        operation,
-        nodes,
-        rows,
-        rest,
-        &mut out_nodes[..node_numbers],
-        &mut out_rows[..row_numbers],
-        &mut counts,
-    );
-    replay_outputs::answered(refusal, &counts, out_nodes, out_rows, answers)
-}
-
-// Where the answers of an operation begin in the rest of its case: past its end, if it is none of these.
-fn answers_at(operation: u32, rest: &[u32]) -> usize {
-    match operation {
-        MERGE_WITH => after_second(rest),
-        MERGE => 2,
-        _ => usize::MAX,
-    }
+    let at = after_second(rest);
+    merge_with(nodes, rows, rest, &rest[at..])
 }
 
 // The place after the second batch of a case and its growing mark.
-fn after_second(rest: &[u32]) -> usize {
+fn after_second(rest: &[u32]) -> usize
+    ensures { λ r. ⌜ r ≤ length (now (rest .entry)) ⌝ }
+{
     let nodes = replay_cases::list_at(rest, 0);
     let rows = replay_cases::list_at(rest, nodes.end);
     let end = rows.end;
     if end < rest.len() { end + 1 } else { end }
 }
 
-// Runs an operation on the output that is lent, and gives its refusal.
-fn write(
-    operation: u32,
-    nodes: &[u32],
-    rows: &[u32],
-    rest: &[u32],
-    out_nodes: &mut [u32],
-    out_rows: &mut [u32],
-    written: &mut [usize; 2],
-) -> u32 {
-    match operation {
-        MERGE_WITH => merge_with(nodes, rows, rest, out_nodes, out_rows, written),
-        _ => merge(nodes, rows, rest, out_nodes, out_rows, written),
-    }
-}
-
 // `18 nodes rows second-nodes second-rows growing refusal nodes rows out-nodes out-rows`
-fn merge_with(
-    nodes: &[u32],
-    rows: &[u32],
-    rest: &[u32],
-    out_nodes: &mut [u32],
-    out_rows: &mut [u32],
-    written: &mut [usize; 2],
-) -> u32 {
+fn merge_with(nodes: &[u32], rows: &[u32], rest: &[u32], answers: &[u32]) -> Outcome {
     let second = replay_cases::list_at(rest, 0);
     let second_start = second.start;
     let second_end = second.end;
     let third = replay_cases::list_at(rest, second_end);
     let third_start = third.start;
     let third_end = third.end;
-    let growing = replay_cases::number_at(rest, third_end) == 1;
-    c_join::noddrefyr_merge_with(
+    let mut out_nodes = [BEFORE; OUTPUT];
+    let mut out_rows = [BEFORE; OUTPUT];
+    let mut counts = [BEFORE_COUNT; 2];
+    let node_numbers = replay_outputs::nodes_lent(answers, &out_nodes);
+    let row_numbers = replay_outputs::rows_lent(answers, &out_rows);
+    let refusal = c_join::noddrefyr_merge_with(
         nodes,
         rows,
         &rest[second_start..second_end],
         &rest[third_start..third_end],
-        growing,
-        out_nodes,
-        out_rows,
-        written,
-    )
-}
-
-// `19 nodes rows growing left refusal nodes rows out-nodes out-rows`: `left` is what each number of the working store is after
-// the call
-fn merge(
-    nodes: &[u32],
-    rows: &[u32],
-    rest: &[u32],
-    out_nodes: &mut [u32],
-    out_rows: &mut [u32],
-    written: &mut [usize; 2],
-) -> u32 {
-    let growing = replay_cases::number_at(rest, 0) == 1;
-    let left = replay_cases::number_at(rest, 1);
-    let mut working_nodes = [LENT; WORKING];
-    let mut working_rows = [LENT; WORKING];
-    let refusal = c_join::noddrefyr_merge(
-        nodes,
-        rows,
-        growing,
-        out_nodes,
-        out_rows,
-        &mut working_nodes,
-        &mut working_rows,
-        written,
+        replay_cases::number_at(rest, third_end) == 1,
+        &mut out_nodes[..node_numbers],
+        &mut out_rows[..row_numbers],
+        &mut counts,
     );
-    replay_outputs::left_as(left, &working_nodes, &working_rows, refusal)
+    replay_outputs::answered_whole(refusal, &counts, &out_nodes, &out_rows, answers)
 }

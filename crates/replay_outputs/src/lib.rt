@@ -3,10 +3,12 @@
 //
 // The answers of such an operation are its refusal, the counts of nodes and rows, and all that stands in its output after the
 // call, as two lists. So many numbers are lent as these have.
+ghost use mathlib.Core.Bool.{true};
 ghost use mathlib.Core.Path.{_≡_};
 ghost use lib.ListN.{replicate};
 ghost use Rattle.replay_answers.specs.Contracts.{Decides};
-ghost use Rattle.replay_outputs.specs.Contracts.{LengthAt, LeftAs};
+ghost use Rattle.replay_cases.specs.Case.{partAt};
+ghost use Rattle.replay_outputs.specs.Contracts.{LengthAt, Told, Left, Stored, Ends, LeftAs};
 use replay_answers::Outcome;
 
 // The most numbers of a list of an output.
@@ -26,6 +28,20 @@ pub fn length_at(case: &[u32], at: usize, lent: &[u32]) -> usize
     if length < most { length } else { most }
 }
 
+// How many numbers are lent for the nodes and for the rows: as many as the two lists of the answers have.
+pub fn nodes_lent(answers: &[u32], lent: &[u32]) -> usize
+    ensures { λ r. ⌜ LengthAt (now (answers .entry)) 3 (now (lent .entry)) r ⌝ }
+{
+    length_at(answers, 3, lent)
+}
+
+pub fn rows_lent(answers: &[u32], lent: &[u32]) -> usize
+    ensures { λ r. ⌜ LengthAt (now (answers .entry)) (partAt (now (answers .entry)) 3 .end) (now (lent .entry)) r ⌝ }
+{
+    let nodes = replay_cases::list_at(answers, 3);
+    length_at(answers, nodes.end, lent)
+}
+
 // Whether the answers are the refusal, the counts and what was left in the output. Answers that do not end with the two lists
 // are not the same.
 pub fn answered(
@@ -34,15 +50,34 @@ pub fn answered(
     nodes: &[u32],
     rows: &[u32],
     answers: &[u32],
-) -> Outcome {
+) -> Outcome
+    ensures { λ r. ⌜ (r ≡ Outcome.Same → Stored refusal (now (counts .entry)) (now (nodes .entry)) (now (rows .entry)) (now (answers .entry))) ⌝ }
+    ensures { λ r. ⌜ (r ≡ Outcome.Same → Ends (now (answers .entry))) ⌝ }
+{
     if !told(refusal, counts, answers) {
         return Outcome::Differs;
     }
     left(nodes, rows, answers)
 }
 
+// The same of outputs that are arrays: these can be lent whole with no proof of their length.
+pub fn answered_whole(
+    refusal: u32,
+    counts: &[usize; 2],
+    nodes: &[u32; OUTPUT],
+    rows: &[u32; OUTPUT],
+    answers: &[u32],
+) -> Outcome
+    ensures { λ r. ⌜ (r ≡ Outcome.Same → Stored refusal (now (counts .entry)) (now (nodes .entry)) (now (rows .entry)) (now (answers .entry))) ⌝ }
+    ensures { λ r. ⌜ (r ≡ Outcome.Same → Ends (now (answers .entry))) ⌝ }
+{
+    answered(refusal, counts, nodes, rows, answers)
+}
+
 // Whether the answers begin with the refusal and the counts.
-fn told(refusal: u32, counts: &[usize; 2], answers: &[u32]) -> bool {
+fn told(refusal: u32, counts: &[usize; 2], answers: &[u32]) -> bool
+    ensures { λ r. ⌜ (r ≡ true → Told refusal (now (counts .entry)) (now (answers .entry))) ⌝ }
+{
     if replay_cases::number_at(answers, 0) != refusal {
         return false;
     }
@@ -53,7 +88,9 @@ fn told(refusal: u32, counts: &[usize; 2], answers: &[u32]) -> bool {
 }
 
 // Whether the two lists that end the answers are what was left in the output.
-fn left(nodes: &[u32], rows: &[u32], answers: &[u32]) -> Outcome {
+fn left(nodes: &[u32], rows: &[u32], answers: &[u32]) -> Outcome
+    ensures { λ r. ⌜ (r ≡ Outcome.Same → Left (now (nodes .entry)) (now (rows .entry)) (now (answers .entry))) ⌝ }
+{
     let first = replay_cases::list_at(answers, 3);
     let first_start = first.start;
     let first_end = first.end;

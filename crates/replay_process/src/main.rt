@@ -1,14 +1,9 @@
 // Replays the stored cases of `process`, called through the C interface (`replay_program` says what a case is, `replay_outputs`
 // what its answers are). Its case is the line above `process`.
 ghost use lib.ListN.{length};
-ghost use Rattle.io.specs.Counts.{Counts};
 ghost use Rattle.replay_program.specs.Contracts.{Inside};
-use input::Line;
 use input::PIECE;
 use replay_answers::Outcome;
-use replay_outputs::BEFORE;
-use replay_outputs::BEFORE_COUNT;
-use replay_outputs::OUTPUT;
 use replay_process_call::MARKS;
 use replay_process_call::POOL;
 use replay_process_call::TEXT;
@@ -22,42 +17,30 @@ const PROCESS: u32 = 26;
 fn main() {
     let mut piece = [0u8; PIECE];
     let mut line = [0u8; LINE];
-    replay_input(&mut piece, &mut line);
+    let mut numbers = [0u32; NUMBERS];
+    replay_input(&mut piece, &mut line, &mut numbers);
 }
 
-// Replays all of the input. A proved loop has to end, and nothing says that an input does: so the turns are counted down, from
-// a number that no run uses up.
-fn replay_input(piece: &mut [u8; PIECE], line: &mut [u8; LINE]) {
-    let mut progress = replay_program::start();
+// Replays all of the input, up to a read or a write that fails. A proved loop has to end, and nothing says that an input does:
+// so the turns are counted down, from a number that no run uses up.
+fn replay_input(piece: &mut [u8; PIECE], line: &mut [u8; LINE], numbers: &mut [u32; NUMBERS]) {
+    let mut progress = replay_counts::start();
     let mut unread = input::start();
     let mut turns = u64::MAX;
     while turns > 0 {
-        let next = input::next_line(piece, line, unread);
+        let next = replay_program::next_case(piece, line, numbers, unread);
         unread = next.unread;
         if !next.found {
             break;
         }
-        progress = replay_program::counted(progress, replay_line(line, next));
+        let case = next.case;
+        progress = replay_counts::counted(progress, replay_parts(case, numbers));
+        if progress.failed {
+            break;
+        }
         turns -= 1;
     }
-    replay_program::print_counts(progress, unread);
-}
-
-// Runs the case that a line holds. A line longer than its buffer is bad.
-fn replay_line(line: &[u8], next: Line) -> Outcome
-    requires { ⌜ Counts (next .held) (now line) ⌝ }
-{
-    if next.long {
-        return Outcome::Bad;
-    }
-    let held = next.held;
-    replay_case(&line[..held])
-}
-
-fn replay_case(line: &[u8]) -> Outcome {
-    let mut numbers = [0u32; NUMBERS];
-    let case = replay_program::read_case(line, &mut numbers);
-    replay_parts(case, &numbers)
+    replay_counts::print_counts(progress, unread);
 }
 
 fn replay_parts(case: Case, numbers: &[u32]) -> Outcome
@@ -91,40 +74,7 @@ fn replay(operation: u32, nodes: &[u32], rows: &[u32], rest: &[u32]) -> Outcome 
     if rest.len() < at {
         return Outcome::Bad;
     }
-    let mut out_nodes = [BEFORE; OUTPUT];
-    let mut out_rows = [BEFORE; OUTPUT];
-    written(
-        nodes,
-        rows,
-        rest,
-        &rest[at..],
-        &mut out_nodes,
-        &mut out_rows,
-    )
-}
-
-// As many numbers are lent as the lists of the answers have.
-fn written(
-    nodes: &[u32],
-    rows: &[u32],
-    rest: &[u32],
-    answers: &[u32],
-    out_nodes: &mut [u32],
-    out_rows: &mut [u32],
-) -> Outcome {
-    let node_numbers = replay_outputs::length_at(answers, 3, out_nodes);
-    let stored_nodes = replay_cases::list_at(answers, 3);
-    let row_numbers = replay_outputs::length_at(answers, stored_nodes.end, out_rows);
-    let mut counts = [BEFORE_COUNT; 2];
-    let refusal = replay_process_call::process(
-        nodes,
-        rows,
-        rest,
-        &mut out_nodes[..node_numbers],
-        &mut out_rows[..row_numbers],
-        &mut counts,
-    );
-    replay_outputs::answered(refusal, &counts, out_nodes, out_rows, answers)
+    replay_process_call::process(nodes, rows, rest, &rest[at..])
 }
 
 // Where the answers begin in the rest of a case: past its end, if its lists are not there.

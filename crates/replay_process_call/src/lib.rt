@@ -1,4 +1,11 @@
-// The call of `process` that a stored case asks for, through the C interface, for the program `replay_process`.
+// The call of `process` that a stored case asks for, through the C interface, and whether it did what is stored, for the program
+// `replay_process`.
+ghost use mathlib.Core.Path.{_≡_};
+ghost use Rattle.replay_outputs.specs.Contracts.{Ends};
+use replay_answers::Outcome;
+use replay_outputs::BEFORE;
+use replay_outputs::BEFORE_COUNT;
+use replay_outputs::OUTPUT;
 use replay_outputs::WORKING;
 
 // How many numbers stand before the lists in the rest of a case.
@@ -14,14 +21,9 @@ const LENT: u32 = 7;
 
 // `26 nodes rows add single-set pair-set left entries members single pair added refusal nodes rows out-nodes out-rows`: `left`
 // is what each number of the working store is after the call
-pub fn process(
-    nodes: &[u32],
-    rows: &[u32],
-    rest: &[u32],
-    out_nodes: &mut [u32],
-    out_rows: &mut [u32],
-    written: &mut [usize; 2],
-) -> u32 {
+pub fn process(nodes: &[u32], rows: &[u32], rest: &[u32], answers: &[u32]) -> Outcome
+    ensures { λ r. ⌜ (r ≡ Outcome.Same → Ends (now (answers .entry))) ⌝ }
+{
     let mut single = [0u8; TEXT];
     let mut pair = [0u8; TEXT];
     let mut added = [0u8; POOL];
@@ -29,12 +31,10 @@ pub fn process(
         nodes,
         rows,
         rest,
+        answers,
         &mut single,
         &mut pair,
         &mut added,
-        out_nodes,
-        out_rows,
-        written,
     )
 }
 
@@ -42,13 +42,13 @@ fn with_texts(
     nodes: &[u32],
     rows: &[u32],
     rest: &[u32],
+    answers: &[u32],
     single: &mut [u8],
     pair: &mut [u8],
     added: &mut [u8],
-    out_nodes: &mut [u32],
-    out_rows: &mut [u32],
-    written: &mut [usize; 2],
-) -> u32 {
+) -> Outcome
+    ensures { λ r. ⌜ (r ≡ Outcome.Same → Ends (now (answers .entry))) ⌝ }
+{
     let entries = replay_cases::list_at(rest, MARKS);
     let members = replay_cases::list_at(rest, entries.end);
     let list = replay_bytes::bytes_at(rest, members.end, single);
@@ -60,12 +60,10 @@ fn with_texts(
         nodes,
         rows,
         rest,
+        answers,
         &single[..single_bytes],
         &pair[..pair_bytes],
         &added[..added_bytes],
-        out_nodes,
-        out_rows,
-        written,
     )
 }
 
@@ -73,21 +71,26 @@ fn processed<'a>(
     nodes: &[u32],
     rows: &[u32],
     rest: &[u32],
+    answers: &[u32],
     single: &'a [u8],
     pair: &'a [u8],
     added: &[u8],
-    out_nodes: &mut [u32],
-    out_rows: &mut [u32],
-    written: &mut [usize; 2],
-) -> u32 {
+) -> Outcome
+    ensures { λ r. ⌜ (r ≡ Outcome.Same → Ends (now (answers .entry))) ⌝ }
+{
     let entries = replay_cases::list_at(rest, MARKS);
     let entries_start = entries.start;
     let entries_end = entries.end;
     let members = replay_cases::list_at(rest, entries_end);
     let members_start = members.start;
     let members_end = members.end;
+    let mut out_nodes = [BEFORE; OUTPUT];
+    let mut out_rows = [BEFORE; OUTPUT];
     let mut working_nodes = [LENT; WORKING];
     let mut working_rows = [LENT; WORKING];
+    let mut counts = [BEFORE_COUNT; 2];
+    let node_numbers = replay_outputs::nodes_lent(answers, &out_nodes);
+    let row_numbers = replay_outputs::rows_lent(answers, &out_rows);
     let refusal = c_process::noddrefyr_process(
         nodes,
         rows,
@@ -99,12 +102,13 @@ fn processed<'a>(
         &rest[members_start..members_end],
         added,
         replay_cases::number_at(rest, 0) == 1,
-        out_nodes,
-        out_rows,
+        &mut out_nodes[..node_numbers],
+        &mut out_rows[..row_numbers],
         &mut working_nodes,
         &mut working_rows,
-        written,
+        &mut counts,
     );
     let left = replay_cases::number_at(rest, 3);
-    replay_outputs::left_as(left, &working_nodes, &working_rows, refusal)
+    let answer = replay_outputs::left_as(left, &working_nodes, &working_rows, refusal);
+    replay_outputs::answered_whole(answer, &counts, &out_nodes, &out_rows, answers)
 }

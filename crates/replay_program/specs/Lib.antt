@@ -1,3 +1,2 @@
 pub mod Comments
-pub mod Counting
 pub mod Contracts

@@ -19,30 +19,40 @@ count-requires : tie.Need-count-requires Inv-loop μ-loop
 count-requires c κs = search needs
 
 loop-holds : tie.Need-loop-holds Inv-loop μ-loop
-loop-holds c = (c .before .before .pre, refl)
+loop-holds c = search needs
 
 make-room-requires : tie.Need-make-room-requires Inv-loop μ-loop
-make-room-requires c κs = c .before .before .loop .inv .0
+make-room-requires c κs = search needs
+
+same-length : tie.Need-same-length Inv-loop μ-loop
+same-length c = search needs
+
+returns : tie.Need-returns Inv-loop μ-loop
+returns c = search needs
 
 write-windows-requires : tie.Need-write-windows-requires Inv-loop μ-loop
-write-windows-requires c κs = omega (arith, c .before .make-room .ensures)
+write-windows-requires c κs = search needs
 
 loop-less : tie.Need-loop-less Inv-loop μ-loop
 loop-less c =
-    let i = c .before .before .before .before .before .before in
-    omega (arith, i .loop-test .taken, lists-move (c .before .before .write-windows .ensures) (omega (arith, i .loop-test .taken, i .before .before .count .ensures)) (c .before .before .before .before .make-room .ensures))
+    let m = c .before .before .before .before .before in
+    let i = m .before .before in
+    omega (arith, i .loop-test .taken, lists-move (c .before .before .write-windows .ensures) (omega (arith, i .loop-test .taken, i .before .before .count .ensures)) (m .make-room .ensures))
 
 loop-again : tie.Need-loop-again Inv-loop μ-loop
 loop-again c =
     let w = c .before .before in
-    let l = c .before .before .before .before .before .before .before in
+    let l = c .before .before .before .before .before .before .before .before in
     (record { long = omega (arith, l .loop .inv .0 .long, w .write-windows .kept .1 .1 .0); inside = omega (arith, w .write-windows .ensures .inside, w .write-windows .kept .1 .1 .0) }, w .write-windows .kept .1 .1 .0 ∙ l .loop .inv .1)
 
-same-length : tie.Need-same-length Inv-loop μ-loop
-same-length c = c .before .loop .inv .1
+waits-requires : tie.Need-waits-requires Inv-loop μ-loop
+waits-requires c κs = search needs
 
-returns : tie.Need-returns Inv-loop μ-loop
-returns c = c .before .loop .inv .0
+same-length-2 : tie.Need-same-length-2 Inv-loop μ-loop
+same-length-2 c = search needs
+
+returns-2 : tie.Need-returns-2 Inv-loop μ-loop
+returns-2 c = search needs
 
 pub list-windows-spec : {M : Type 1} → statement M
 list-windows-spec =
@@ -53,8 +63,11 @@ list-windows-spec =
     count-requires
     loop-holds
     make-room-requires
+    same-length
+    returns
     write-windows-requires
     loop-less
     loop-again
-    same-length
-    returns)
+    waits-requires
+    same-length-2
+    returns-2)
