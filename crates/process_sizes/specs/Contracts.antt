@@ -21,11 +21,11 @@ abbrev pub SizesSteps : List ℕ → ℕ → List ℕ → List ℕ → ℕ → S
 SizesSteps nodes k entries numbers count s =
     (members : List ℕ) (E : Encoding) (second : Option Encoding) (steps : List Step) → StepsOf nodes k entries numbers count members E second steps → Sizes (fold false (map (stepEncoding entries members E second) steps)) s
 
--- its profile
+-- ---- By profiles
+
+-- the profile of the encoding that begins at place k, if there is one; else that of the empty one
 abbrev pub ProfileAt : List ℕ → ℕ → Profile → Type 0
 ProfileAt nodes k p = (o : Option Encoding) → SecondStands nodes k o → ProfileOf (secondOr o) p
-
--- ---- By profiles
 
 -- the profile of any encoding that has `count` rows and no windows
 abbrev pub ProfilesAlone : ℕ → Profile → Type 0
