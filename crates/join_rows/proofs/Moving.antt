@@ -6,7 +6,7 @@ use mathlib.Core.List.{List, [], _∷_, flatMap, map, map-map}
 use Prim.Native.Nat.{ℕ, suc, _+_, _*_, _-_, _≤_, _<_}
 use native.Mathlib.Omega.{arith}
 use lib.ListN.{length, getD, take, drop, length-map}
-use lib.Seq.{sets, take-at, length-sets, getD-drop}
+use lib.Seq.{sets, take-at, getD-drop}
 use Rattle.record.specs.Tree.{Row}
 use Rattle.record.specs.Flat.{rowWidth, rowNumbers}
 use Rattle.record.specs.Standing.{RowsAt}
@@ -17,6 +17,7 @@ use Rattle.join_trees.specs.Join.{moved, lastEnd, base}
 use Rattle.join_view.specs.declared.View.{View}
 use Rattle.join_view.specs.declared.View.the-variants.{Plain, Window, Piece}
 use Rattle.join_view.specs.View.{typed, rowsSeen}
+use Rattle.join_shift.specs.Contracts.{Shifts}
 use Rattle.join_rows.specs.Contracts.{AskMoved, MakesRows, movedRows, AskOwn, WritesOwn}
 use Rattle.join_view.proofs.Seen.{length-rows-seen}
 use Rattle.lists.proofs.Written.{sets-stand, sets-again}
@@ -73,12 +74,7 @@ makes-then {make} {then} {rows} {out} {out₁} {out₂} {j} {count} {at} lm lt f
           q .made (make R) stands size ∙ ap (λ (l : List ℕ). sets l at Y) (p .made R h n) ∙ sets-again out at X Y (omega (arith, length-numbers row-stored (make R), length-numbers row-stored (then (make R)), lt (make R))) (omega (arith, length-numbers row-stored (then (make R)), lt (make R)));
     }
 
--- ---- Copied, moved on, and seen
-
-pub asks-moved : (out : List ℕ) {rows out₁ : List ℕ} {j count n at : ℕ} → AskMoved rows j count n → at + count * rowWidth ≤ length out → out₁ ≡ sets out at (take (count * rowWidth) (drop j rows)) → AskMoved out₁ at count n
-asks-moved out {rows} {out₁} {j} {count} {n} {at} ask fits e =
-    let copied = makes-copy e .made (ask .R) (ask .there) (ask .size) in
-    record { R = ask .R; there = rw copied (rows-stand out (omega (arith, ask .size))); size = ask .size; within = ask .within; inside = omega (arith, ap length e, length-sets out at (take (count * rowWidth) (drop j rows))) }
+-- ---- Copied as they move on, and seen
 
 -- a view that leaves rows as they are
 pub makes-none : {rows : List ℕ} {j count : ℕ} (v : View) → ((R : List Row) → rowsSeen v R ≡ R) → MakesRows (rowsSeen v) rows j count rows j rows
@@ -94,10 +90,10 @@ seen-moved Plain n R = refl
 seen-moved (Window k) n R = refl
 seen-moved (Piece k t) n R = map-map (typed t) (moved n) R ∙ sym (map-map (moved n) (typed t) R)
 
-pub makes-moved : {rows out out₁ out₂ out₃ : List ℕ} {j count at : ℕ} (v : View) (n : ℕ) → at + count * rowWidth ≤ length out → out₁ ≡ sets out at (take (count * rowWidth) (drop j rows))
-    → MakesRows (map (moved n)) out₁ at count out₁ at out₂ → MakesRows (rowsSeen v) out₂ at count out₂ at out₃ → MakesRows (movedRows v n) rows j count out at out₃
-makes-moved {rows} {out} {out₁} {out₂} {out₃} {j} {count} {at} v n fits e p q =
-    let changed = makes-then (λ R. length-map R (moved n)) (length-rows-seen v) fits (makes-then (λ R. refl) (λ R. length-map R (moved n)) fits (makes-copy e) p) q in
+pub makes-moved : {rows out out₁ out₂ : List ℕ} {j count at : ℕ} (v : View) (n : ℕ) → at + count * rowWidth ≤ length out
+    → Shifts rows j count n out at out₁ → MakesRows (rowsSeen v) out₁ at count out₁ at out₂ → MakesRows (movedRows v n) rows j count out at out₂
+makes-moved {rows} {out} {out₁} {out₂} {j} {count} {at} v n fits p q =
+    let changed = makes-then {make = map (moved n)} (λ R. length-map R (moved n)) (length-rows-seen v) fits (record { made = p .made }) q in
     record { made = λ R h k. changed .made R h k ∙ ap (λ (rs : List Row). sets out at (flatMap rowNumbers rs)) (seen-moved v n R) }
 
 -- ---- After the rows of S

@@ -6,20 +6,16 @@ use Prim.Native.Nat.{ℕ, _+_, _*_, _≤_, _<_}
 use native.Mathlib.Numerals.{add-one}
 use native.Mathlib.Omega.{arith}
 use lib.ListN.{length, getD, take, set, length-map, List·getD-map}
-use lib.Seq.{sets, take-all, take-set-le, drop-set-add}
+use lib.Seq.{sets, take-all}
 use Rattle.record.specs.Tree.{Row}
 use Rattle.record.specs.Flat.{rowWidth, rowNumbers}
 use Rattle.record.specs.Standing.{RowsAt}
 use Rattle.record.proofs.Flat.{row-stored}
-use Rattle.join_trees.specs.Join.{moved}
 use Rattle.join_view.specs.View.{typed}
-use Rattle.join_trees.specs.Offsets.{mostOffset}
-use Rattle.join_trees.proofs.Units.{moved-zeros}
 use Rattle.lists.specs.Stretch.{Stretch}
-use Rattle.join_rows.specs.Contracts.{AskMoved, MakesRows}
+use Rattle.join_rows.specs.Contracts.{MakesRows}
 use Rattle.join_view.proofs.InPlace.{next-stands, next-written}
-use Rattle.lists.proofs.All.{all-at}
-use Rattle.lists.proofs.Written.{set-inside, stands-number, stands-over, stands-same}
+use Rattle.lists.proofs.Written.{set-inside, stands-over, stands-same}
 
 -- what stands where no row is
 abbrev pub blank : Row
@@ -33,22 +29,7 @@ unfolding rowNumbers
 typed-there l i t r h =
     set-inside l i 1 t ∙ ap (λ (m : List ℕ). take i l ++ set m 1 t) (h .is) ∙ sym (stands-over h (rowNumbers (typed t r)) refl)
 
--- its offsets read, and written
-offsets-there : (l : List ℕ) (i : ℕ) (r : Row) → Stretch l i (rowNumbers r) → (getD l (i + 7) 0 ≡ r .offset-start) × (getD l (i + 8) 0 ≡ r .offset-end)
-unfolding rowNumbers
-offsets-there l i r h = (stands-number h 7 (omega arith), stands-number h 8 (omega arith))
-
-pub moved-there : (l : List ℕ) (i n : ℕ) (r : Row) → Stretch l i (rowNumbers r) → set (set l (i + 7) (getD l (i + 7) 0 + n)) (i + 8) (getD l (i + 8) 0 + n) ≡ sets l i (rowNumbers (moved n r))
-unfolding rowNumbers
-moved-there l i n r h =
-    let o = offsets-there l i r h in
-    ap₂ (λ (a b : ℕ). set (set l (i + 7) (a + n)) (i + 8) (b + n)) (o .0) (o .1)
-    ∙ set-inside (set l (i + 7) (r .offset-start + n)) i 8 (r .offset-end + n)
-    ∙ ap₂ (λ (a b : List ℕ). a ++ set b 8 (r .offset-end + n)) (take-set-le i l (i + 7) (r .offset-start + n) (omega arith)) (drop-set-add i l 7 (r .offset-start + n))
-    ∙ ap (λ (m : List ℕ). take i l ++ set (set m 7 (r .offset-start + n)) 8 (r .offset-end + n)) (h .is)
-    ∙ sym (stands-over h (rowNumbers (moved n r)) refl)
-
--- ---- Nothing to change
+-- ---- Rows that stand
 
 pub rows-stretch : {rows : List ℕ} {j : ℕ} {R : List Row} → RowsAt rows j R → Stretch rows j (flatMap rowNumbers R)
 rows-stretch h = record { rest = h .rest; is = h .is }
@@ -56,10 +37,6 @@ rows-stretch h = record { rest = h .rest; is = h .is }
 -- rows that stand there, written once more
 pub rows-there : {rows : List ℕ} {j : ℕ} {R : List Row} → RowsAt rows j R → rows ≡ sets rows j (flatMap rowNumbers R)
 rows-there h = sym (stands-same (rows-stretch h))
-
-pub unmoved : {rows : List ℕ} {j count n : ℕ} → n ≡ 0 → MakesRows (map (moved n)) rows j count rows j rows
-unmoved {rows} {j} {count} {n} e =
-    record { made = λ R h k. rows-there h ∙ ap (λ (rs : List Row). sets rows j (flatMap rowNumbers rs)) (sym (ap (λ (m : ℕ). map (moved m) R) e ∙ moved-zeros R)) }
 
 -- ---- One row after another
 
@@ -92,14 +69,6 @@ module _ {f : Row → Row} {before : List ℕ} {j count : ℕ} {now : List ℕ} 
             ∙ next-written row-stored before j (map f R) i (f blank) (omega (arith, length-map R f))
             ∙ ap (λ (m : ℕ). sets before j (flatMap rowNumbers (take m (map f R)))) (sym (add-one i));
       }
-
-  -- the offsets of the next row stay within, if all are to
-  pub turning-within : {n : ℕ} → AskMoved before j count n → i < count → (getD now (place + 7) 0 + n ≤ mostOffset) × (getD now (place + 8) 0 + n ≤ mostOffset)
-  turning-within {n} ask k =
-      let r = getD (ask .R) i blank in
-      let w = all-at (λ (r : Row). (r .offset-start + n ≤ mostOffset) × (r .offset-end + n ≤ mostOffset)) (ask .R) i blank (omega (arith, ask .size)) (ask .within) in
-      let e = offsets-there now place r (turning-row (ask .R) (ask .there) (ask .size) k blank) in
-      (omega (arith, w .0, e .0), omega (arith, w .1, e .1))
 
   pub turning-end : i ≡ count → MakesRows (map f) before j count before j now
   turning-end e =

@@ -4,7 +4,7 @@ ghost use mathlib.Core.Path.{_≡_};
 ghost use Prim.Native.Nat.{_+_, _*_, _≤_};
 ghost use lib.ListN.{length};
 ghost use Rattle.join_rows.specs.Contracts.{AskMoved, MakesRows, movedRows, AskOwn, WritesOwn};
-ghost use Rattle.join_trees.specs.Join.{moved, base};
+ghost use Rattle.join_trees.specs.Join.{base};
 ghost use Rattle.join_view.specs.View.{typed, rowsSeen};
 ghost use Rattle.record.specs.Flat.{rowWidth};
 ghost use Rattle.record.specs.Standing.{RowsAt};
@@ -51,7 +51,7 @@ pub fn base_of(rows: &[u32], j: usize, count: usize, growing: bool) -> u32
 }
 
 // The rows of P, of which `count` stand at j, as they follow those of S: seen through the view, their offsets moved on by n.
-// The whole block is copied, and only the columns that change are written again.
+// The whole block is copied as its offsets move, and only the types, if they change, are written again.
 pub fn copy_moved(
     p_rows: &[u32],
     j: usize,
@@ -65,29 +65,8 @@ pub fn copy_moved(
     ensures { λ _. ⌜ MakesRows (movedRows view n) (now («p_rows» .entry)) j count (now («out_rows» .entry)) at
         (now («out_rows» .exit)) ⌝ }
 {
-    lists::copy(p_rows, j, count * Encoding::ROW_WIDTH, out_rows, at);
-    move_offsets(out_rows, at, count, n);
+    join_shift::copy_shifted(p_rows, j, count, n, out_rows, at);
     view_types(out_rows, at, count, view);
-}
-
-// The offsets of `count` rows, from `at` on, moved on by n.
-pub fn move_offsets(rows: &mut [u32], at: usize, count: usize, n: u32)
-    requires { ⌜ AskMoved (now rows) at count n ⌝ }
-    ensures { λ _. ⌜ MakesRows (map (moved n)) (now (rows .entry)) at count (now (rows .entry)) at (now (rows .exit)) ⌝ }
-{
-    if n == 0 {
-        return;
-    }
-    let mut place = at;
-    let mut i: usize = 0;
-    while i < count {
-        let start = rows[place + Column::OFFSET_START];
-        let end = rows[place + Column::OFFSET_END];
-        rows[place + Column::OFFSET_START] = start + n;
-        rows[place + Column::OFFSET_END] = end + n;
-        place += Encoding::ROW_WIDTH;
-        i += 1;
-    }
 }
 
 // The type that the view sets, if it sets one, on `count` rows, from `at` on.
