@@ -1,9 +1,9 @@
--- What holds of each element holds of those taken, of those left, of the one with a given number, and of copies of one.
+-- What holds of each element holds of those taken, of those left, and of the one with a given number.
 -- Assumes nothing.
 use Prim.Native.Nat.{ℕ, zero, suc, _<_}
 use native.Mathlib.Omega.{arith}
 use mathlib.Core.List.{List, [], _∷_}
-use lib.ListN.{length, getD, take, drop, replicate}
+use lib.ListN.{length, getD, take, drop}
 use Rattle.lists.specs.Lists.{All}
 
 module _ {A : Type 0} (M : A → Type 0) where
@@ -21,7 +21,3 @@ module _ {A : Type 0} (M : A → Type 0) where
   all-get i d [] k h = absurd (omega arith)
   all-get zero d (x ∷ l) k (h, hs) = h
   all-get (suc i) d (x ∷ l) k (h, hs) = all-get i d l (omega arith) hs
-
-  pub all-replicate : (n : ℕ) (x : A) → M x → All M (replicate n x)
-  all-replicate zero x h = tt
-  all-replicate (suc n) x h = (h, all-replicate n x h)

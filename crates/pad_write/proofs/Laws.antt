@@ -12,8 +12,7 @@ use lib.ListN.{length, replicate, length-append, length-replicate, length-map}
 use Rattle.record.specs.Tree.{Row, Range, Forest, none, node, Encoding, listed, tops}
 use Rattle.lists.specs.Lists.{All}
 use Rattle.record.specs.WellFormed.{RangeFine, RowFine, Fine, WellFormed, nodesIn, rowsIn, levels, mostRows}
-use Rattle.lists.proofs.All.{all-imp, all-append, all-map}
-use Rattle.lists.proofs.Parts.{all-replicate}
+use Rattle.lists.proofs.All.{all-imp, all-append, all-map, all-replicate}
 use Rattle.cut_plan.specs.declared.Direction.{Direction}
 use Rattle.cut_plan.specs.declared.Direction.the-variants.{Left, Right}
 use Rattle.pad_rows.specs.declared.PadToken.{PadToken}

@@ -3,8 +3,9 @@
 use mathlib.Core.Path.{_≡_, refl, sym, ap, _∙_}
 use Prim.Native.Nat.{ℕ, _+_, _*_, _<_}
 use native.Mathlib.Omega.{arith}
-use mathlib.Core.List.{List, [], _∷_, _++_, flatMap, append-assoc, append-nil}
+use mathlib.Core.List.{List, [], _∷_, _++_, flatMap, append-nil}
 use lib.ListN.{length, getD, length-append}
+use Rattle.lists.proofs.FlatMap.{flatMap-append}
 use Rattle.record.specs.Tree.{Row, Forest, none, node}
 use Rattle.record.specs.Flat.{rowWidth, rowNumbers, flatRows}
 use Rattle.record.specs.WellFormed.{nodesIn, rowsIn}
@@ -12,9 +13,7 @@ use Rattle.record.specs.Walk.{allRows, allEncodings}
 use Rattle.record.proofs.Flat.{several-at, row-stored}
 
 pub numbers-append : (s t : List Row) → flatMap rowNumbers (s ++ t) ≡ flatMap rowNumbers s ++ flatMap rowNumbers t
-unfolding flatMap
-numbers-append [] t = refl
-numbers-append (r ∷ s) t = rw (numbers-append s t, append-assoc)
+numbers-append = flatMap-append rowNumbers
 
 pub flat-rows : (f : Forest) → flatRows f ≡ flatMap rowNumbers (allRows f)
 unfolding flatRows flatMap allRows

@@ -15,7 +15,8 @@ use Rattle.cut_plan.specs.declared.Direction.{Direction}
 use Rattle.record.specs.declared.Bounds.{Bounds}
 use Rattle.cut_windows.specs.Made.{plain, part, gathered}
 use Rattle.truncate_write.specs.Truncated.{truncated}
-use Rattle.lists.proofs.Parts.{all-take, all-drop, all-replicate}
+use Rattle.lists.proofs.All.{all-replicate}
+use Rattle.lists.proofs.Parts.{all-take, all-drop}
 
 plain-fine : (r : List Row) → All RowFine r → NodeFine r (replicate sequences absent)
 plain-fine r h = record { places = refl; ranges-fine = all-replicate (RangeFine (length r)) sequences absent (inl refl); rows-fine = h }
