@@ -8,7 +8,7 @@ use native.Mathlib.Nat.{mul-le-mul-right}
 use native.Mathlib.Omega.{arith}
 use lib.ListN.{length, take, drop, length-drop}
 use lib.Seq.{take-all}
-use Rattle.record.specs.Tree.{Forest, Encoding, listed, forest}
+use Rattle.record.specs.Tree.{Forest, Encoding, forest}
 use Rattle.record.specs.Flat.{rowWidth, nodeWidth}
 use Rattle.record.specs.WellFormed.{WellFormed, Stores, nodesIn, rowsIn}
 use Rattle.record.specs.Outcome.{Room}

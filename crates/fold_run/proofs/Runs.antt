@@ -5,7 +5,7 @@ use mathlib.Core.List.{List, [], _∷_, _++_, append-assoc}
 use Prim.Native.Nat.{ℕ, _+_, _*_, _≤_, _<_}
 use native.Mathlib.Omega.{arith}
 use lib.ListN.{length, getD}
-use Rattle.record.specs.Tree.{Row, Range, Forest, none, node, Encoding, listed, forest, windows}
+use Rattle.record.specs.Tree.{Forest, none, node, Encoding, listed, forest, windows}
 use Rattle.record.specs.Flat.{nodeWidth}
 use Rattle.record.specs.WellFormed.{rowsIn}
 use Rattle.record.specs.Passing.{NodesToCome}

@@ -1,6 +1,5 @@
 -- What is asked and given where the steps of a template are measured and taken: the encodings that they join stand in two lists.
 -- Assumes nothing: these are definitions.
-use mathlib.Core.Bool.{false}
 use mathlib.Core.Option.{Option}
 use mathlib.Core.List.{List, map}
 use Prim.Native.Nat.{ℕ}

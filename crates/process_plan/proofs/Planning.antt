@@ -2,9 +2,9 @@
 -- Assumes nothing.
 use mathlib.Core.Path.{_≡_, refl, ap, sym, _∙_}
 use mathlib.Core.Bool.{Bool, true, false, _&&_}
-use mathlib.Core.Option.{Option, none as nothing, some}
+use mathlib.Core.Option.{none as nothing, some}
 use mathlib.Core.List.{List, [], _∷_, _++_, flatMap, append-assoc, append-nil}
-use Prim.Native.Nat.{ℕ, _+_, _*_, _-_, _≤_, _<_}
+use Prim.Native.Nat.{ℕ, _+_, _*_, _≤_, _<_}
 use native.Mathlib.Omega.{arith}
 use lib.ListN.{length, drop, length-append}
 use lib.Seq.{sets, length-sets}
@@ -16,7 +16,6 @@ use Rattle.template_pieces.specs.Piece.{Piece, special}
 use Rattle.template_text.specs.Template.{mostParts, pieceWidth, readParts}
 use Rattle.template_text.proofs.Answers.{short-is, template-holds}
 use Rattle.template_text.proofs.Walked.{Walked, walked-start, walked-first}
-use Rattle.template_entries.specs.Table.{Special}
 use Rattle.template_find.specs.Last.{lastWith}
 use Rattle.template_entries.proofs.Sound.{table-holds}
 use Rattle.process_plan.proofs.Next.{Passed, NoStep}

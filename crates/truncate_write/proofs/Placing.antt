@@ -1,7 +1,7 @@
 -- An encoding where it stands, and written: as it is, and below an empty one.
 -- Assumes nothing.
 use mathlib.Core.Path.{_≡_, sym, ap, _∙_}
-use Prim.Native.Nat.{ℕ, _+_, _*_, _-_}
+use Prim.Native.Nat.{ℕ, _+_, _*_}
 use mathlib.Core.List.{List, [], _∷_, flatMap, append-nil}
 use lib.ListN.{take, drop}
 use lib.Seq.{sets}

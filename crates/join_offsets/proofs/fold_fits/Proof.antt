@@ -1,6 +1,5 @@
 -- `fold_fits` is told by the steps, unless all is far within; without growing every fold fits, as the batch's numbers do.
 -- Assumes nothing.
-use borrow.Author.Needs.{needs}
 use borrow.Author.Tests.{not-true, not-false}
 use native.Mathlib.Omega.{arith}
 use mathlib.Core.Path.{sym, ap, subst, _∙_}

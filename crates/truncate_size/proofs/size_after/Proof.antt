@@ -1,6 +1,6 @@
 -- `size_after` follows the cases of its definition. Assumes nothing.
 use mathlib.Core.Path.{sym, ap, subst, _∙_}
-use Prim.Native.Nat.{ℕ, _+_, _*_, _-_}
+use Prim.Native.Nat.{ℕ, _+_, _*_}
 use native.Mathlib.Omega.{arith}
 use borrow.Author.Needs.{needs}
 use Rattle.cut_plan.specs.declared.Decision.{Decision}
