@@ -1,2 +1,2 @@
-pub mod Added
+pub mod Shifts
 pub mod Blocks

@@ -1,15 +1,15 @@
--- What copying rows with their offsets moved on asks and gives, and what adding numbers does.
+-- What copying rows with their offsets moved on asks and gives, and the block of numbers that moves them.
 -- Assumes nothing: these are definitions.
 use mathlib.Core.Path.{_≡_}
-use mathlib.Core.List.{List, [], _∷_, flatMap, map}
-use Prim.Native.Nat.{ℕ, _+_, _*_, _≤_, _<_}
-use lib.ListN.{length, getD}
+use mathlib.Core.List.{List, flatMap, map}
+use Prim.Native.Nat.{ℕ, _+_, _*_, _≤_}
+use lib.ListN.{length, replicate}
 use lib.Seq.{sets}
 use Rattle.record.specs.Tree.{Row}
 use Rattle.record.specs.Flat.{rowWidth, rowNumbers}
 use Rattle.record.specs.Standing.{RowsAt}
 use Rattle.join_trees.specs.Join.{moved}
-use Rattle.join_trees.specs.Offsets.{mostOffset, MovedWithin}
+use Rattle.join_trees.specs.Offsets.{MovedWithin}
 
 -- There are `count` rows at j, whose offsets stay within 32 bits when moved on by n, and room for them.
 pub record AskShift (rows : List ℕ) (j count n : ℕ) (out : List ℕ) (at : ℕ) : Type 0 where
@@ -24,21 +24,10 @@ pub record AskShift (rows : List ℕ) (j count n : ℕ) (out : List ℕ) (at : �
 pub record Shifts (rows : List ℕ) (j count n : ℕ) (out : List ℕ) (at : ℕ) (out′ : List ℕ) : Type 0 where
   pub made : (R : List Row) → RowsAt rows j R → length R ≡ count → out′ ≡ sets out at (flatMap rowNumbers (map (moved n) R))
 
--- the numbers ds added to the numbers xs, one to one
-unfoldable pub added : List ℕ → List ℕ → List ℕ
-added [] ds = []
-added (x ∷ xs) [] = []
-added (x ∷ xs) (d ∷ ds) = (x + d) ∷ added xs ds
+-- the row of zeros but for its offsets, which are n: added to the numbers of a row it moves the offsets on by n
+abbrev pub shift : ℕ → Row
+shift n = record { id = 0; type-id = 0; pool = 0; text-start = 0; text-length = 0; word-mark = 0; word = 0; offset-start = n; offset-end = n; special = 0; attention = 0 }
 
--- There are enough of them, there is room, and the sums stay within 32 bits.
-pub record AskAdd (src more dst : List ℕ) : Type 0 where
-  pub room : length src ≡ length dst
-  pub enough : length src ≤ length more
-  pub sums : (k : ℕ) → k < length src → getD src k 0 + getD more k 0 ≤ mostOffset
-
--- The same of m numbers of src from place `from` on, and of those of dst from `at` on.
-pub record AskAddAt (src : List ℕ) (from m : ℕ) (more dst : List ℕ) (at : ℕ) : Type 0 where
-  pub inside : from + m ≤ length src
-  pub fits : at + m ≤ length dst
-  pub enough : m ≤ length more
-  pub sums : (k : ℕ) → k < m → getD src (from + k) 0 + getD more k 0 ≤ mostOffset
+-- the numbers of t such rows
+abbrev pub shifts : ℕ → ℕ → List ℕ
+shifts n t = flatMap rowNumbers (replicate t (shift n))

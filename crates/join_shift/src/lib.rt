@@ -2,9 +2,7 @@
 // is 0 but for the offsets. That takes no more time than a plain copy, where a second pass over the copy takes half as much
 // again.
 ghost use mathlib.Core.Path.{_≡_};
-ghost use lib.Seq.{sets};
-ghost use lib.ListN.{take, drop};
-ghost use Rattle.join_shift.specs.Contracts.{AskShift, Shifts, AskAdd, AskAddAt, added};
+ghost use Rattle.join_shift.specs.Contracts.{AskShift, Shifts, shifts};
 use record::Column;
 use record::Encoding;
 
@@ -33,6 +31,19 @@ pub fn copy_shifted(rows: &[u32], j: usize, count: usize, n: u32, out_rows: &mut
         lists::copy(rows, j, size, out_rows, at);
         return;
     }
+    let shifts = block_of_shifts(n);
+    let mut i: usize = 0;
+    while size - i >= BLOCK {
+        join_add::add_at(rows, j + i, BLOCK, &shifts, out_rows, at + i);
+        i += BLOCK;
+    }
+    join_add::add_at(rows, j + i, size - i, &shifts, out_rows, at + i);
+}
+
+// The block that moves the offsets of four rows on by n.
+fn block_of_shifts(n: u32) -> [u32; BLOCK]
+    ensures { λ r. ⌜ r ≡ shifts n 4 ⌝ }
+{
     let mut shifts = [0u32; BLOCK];
     shifts[Column::OFFSET_START] = n;
     shifts[Column::OFFSET_END] = n;
@@ -42,30 +53,5 @@ pub fn copy_shifted(rows: &[u32], j: usize, count: usize, n: u32, out_rows: &mut
     shifts[THIRD_END] = n;
     shifts[FOURTH_START] = n;
     shifts[FOURTH_END] = n;
-    let mut i: usize = 0;
-    while size - i >= BLOCK {
-        add_at(rows, j + i, BLOCK, &shifts, out_rows, at + i);
-        i += BLOCK;
-    }
-    add_at(rows, j + i, size - i, &shifts, out_rows, at + i);
-}
-
-// The first m of the numbers `more` added to those of src from `from` on, into dst from `at` on.
-fn add_at(src: &[u32], from: usize, m: usize, more: &[u32], dst: &mut [u32], at: usize)
-    requires { ⌜ AskAddAt (now src) from m (now more) (now dst) at ⌝ }
-    ensures { λ _. ⌜ now (dst .exit) ≡ sets (now (dst .entry)) at (added (take m (drop from (now (src .entry)))) (now (more .entry))) ⌝ }
-{
-    add_whole(&src[from..from + m], more, &mut dst[at..at + m]);
-}
-
-// The numbers `more` added to those of src, into dst.
-fn add_whole(src: &[u32], more: &[u32], dst: &mut [u32])
-    requires { ⌜ AskAdd (now src) (now more) (now dst) ⌝ }
-    ensures { λ _. ⌜ now (dst .exit) ≡ added (now (src .entry)) (now (more .entry)) ⌝ }
-{
-    let mut i: usize = 0;
-    while i < src.len() {
-        dst[i] = src[i] + more[i];
-        i += 1;
-    }
+    shifts
 }

@@ -7,10 +7,10 @@ use lib.Seq.{paste, paste-zero}
 use borrow.Author.Needs.{needs}
 use native.Mathlib.Omega.{arith}
 use Rattle.lists.proofs.Sets.{copy-turn, copy-all}
-use Rattle.join_shift.specs.Contracts.{added}
-use Rattle.join_shift.proofs.Added.{length-added, getD-added}
-use Rattle.join_shift.proofs.add_whole.Statement.{statement}
-use Rattle.join_shift.proofs.add_whole.Tie as tie
+use Rattle.join_add.specs.Contracts.{added}
+use Rattle.join_add.proofs.Added.{length-added, getD-added}
+use Rattle.join_add.proofs.add_whole.Statement.{statement}
+use Rattle.join_add.proofs.add_whole.Tie as tie
 
 abbrev Inv-loop : tie.InvT-loop
 Inv-loop src more dst₀ i₀ dst i = (i ≤ length src) × (dst ≡ paste dst₀ 0 (added src more) i) × (length dst ≡ length dst₀)

@@ -5,10 +5,10 @@ use lib.ListN.{length, take, drop, length-take, length-drop}
 use native.Mathlib.Omega.{arith}
 use borrow.Author.Needs.{needs}
 use Rattle.lists.proofs.Sets.{sets-part}
-use Rattle.join_shift.specs.Contracts.{added}
-use Rattle.join_shift.proofs.Added.{length-added, part-at}
-use Rattle.join_shift.proofs.add_at.Statement.{statement}
-use Rattle.join_shift.proofs.add_at.Tie as tie
+use Rattle.join_add.specs.Contracts.{added}
+use Rattle.join_add.proofs.Added.{length-added, part-at}
+use Rattle.join_add.proofs.add_at.Statement.{statement}
+use Rattle.join_add.proofs.add_at.Tie as tie
 
 add-add-whole : tie.Need-add-add-whole
 add-add-whole c = search needs

@@ -1,0 +1,26 @@
+-- What adding numbers asks, and what it makes.
+-- Assumes nothing: these are definitions.
+use mathlib.Core.Path.{_≡_}
+use mathlib.Core.List.{List, [], _∷_}
+use Prim.Native.Nat.{ℕ, _+_, _≤_, _<_}
+use lib.ListN.{length, getD}
+use Rattle.join_trees.specs.Offsets.{mostOffset}
+
+-- the numbers ds added to the numbers xs, one to one
+unfoldable pub added : List ℕ → List ℕ → List ℕ
+added [] ds = []
+added (x ∷ xs) [] = []
+added (x ∷ xs) (d ∷ ds) = (x + d) ∷ added xs ds
+
+-- There are enough of them, there is room, and the sums stay within 32 bits.
+pub record AskAdd (src more dst : List ℕ) : Type 0 where
+  pub room : length src ≡ length dst
+  pub enough : length src ≤ length more
+  pub sums : (k : ℕ) → k < length src → getD src k 0 + getD more k 0 ≤ mostOffset
+
+-- The same of m numbers of src from place `from` on, and of those of dst from `at` on.
+pub record AskAddAt (src : List ℕ) (from m : ℕ) (more dst : List ℕ) (at : ℕ) : Type 0 where
+  pub inside : from + m ≤ length src
+  pub fits : at + m ≤ length dst
+  pub enough : m ≤ length more
+  pub sums : (k : ℕ) → k < m → getD src (from + k) 0 + getD more k 0 ≤ mostOffset
