@@ -13,7 +13,8 @@ use Rattle.record.proofs.Read.{stored}
 use Rattle.join_trees.proofs.Outcomes.{join-told}
 use Rattle.join.specs.Demand.{Called, Call, FourCalls}
 use Rattle.join.proofs.Demand.{call-left, demand}
-use Rattle.join_three.specs.Ways.{Stopped, Next, LeftWay, RightWay}
+use Rattle.join_next.specs.Next.{Stopped, Next}
+use Rattle.join_three.specs.Ways.{LeftWay, RightWay}
 use Rattle.join_three.proofs.Ways.{call}
 use Rattle.join_grouping.specs.Grouping.{SameBothWays}
 

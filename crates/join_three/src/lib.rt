@@ -1,7 +1,6 @@
 // Three encodings joined one way, by two calls of `merge_with`: from the left, or from the right. `join_grouping` goes both ways
 // (demand 3 of the request). No operation of document 01, so the C interface does not have it.
 ghost use Rattle.join_three.specs.Ways.{LeftWay, RightWay};
-use record::Encoding;
 use record::Written;
 
 // A with B, into a store between the calls, and the result with C. Answers with the refusal of the first call that is refused.
@@ -24,22 +23,16 @@ pub fn join_left(
         (now («ab_nodes» .exit)) (now («ab_rows» .exit)) (now («out_nodes» .exit)) (now («out_rows» .exit)) r ⌝ }
 {
     let first = join::merge_with(a_nodes, a_rows, b_nodes, b_rows, growing, ab_nodes, ab_rows);
-    match first {
-        Written::Refused(why) => Written::Refused(why),
-        Written::Done { nodes, rows } => {
-            let node_end = nodes * Encoding::NODE_WIDTH;
-            let row_end = rows * Encoding::ROW_WIDTH;
-            join::merge_with(
-                &ab_nodes[..node_end],
-                &ab_rows[..row_end],
-                c_nodes,
-                c_rows,
-                growing,
-                out_nodes,
-                out_rows,
-            )
-        }
-    }
+    join_next::then_left(
+        first,
+        ab_nodes,
+        ab_rows,
+        c_nodes,
+        c_rows,
+        growing,
+        out_nodes,
+        out_rows,
+    )
 }
 
 // B with C, into a store between the calls, and A with the result. Answers with the refusal of the first call that is refused.
@@ -62,20 +55,14 @@ pub fn join_right(
         (now («bc_nodes» .exit)) (now («bc_rows» .exit)) (now («out_nodes» .exit)) (now («out_rows» .exit)) r ⌝ }
 {
     let first = join::merge_with(b_nodes, b_rows, c_nodes, c_rows, growing, bc_nodes, bc_rows);
-    match first {
-        Written::Refused(why) => Written::Refused(why),
-        Written::Done { nodes, rows } => {
-            let node_end = nodes * Encoding::NODE_WIDTH;
-            let row_end = rows * Encoding::ROW_WIDTH;
-            join::merge_with(
-                a_nodes,
-                a_rows,
-                &bc_nodes[..node_end],
-                &bc_rows[..row_end],
-                growing,
-                out_nodes,
-                out_rows,
-            )
-        }
-    }
+    join_next::then_right(
+        first,
+        a_nodes,
+        a_rows,
+        bc_nodes,
+        bc_rows,
+        growing,
+        out_nodes,
+        out_rows,
+    )
 }
