@@ -110,17 +110,35 @@ fn not_read() -> Unread {
 // Puts what is read behind the bytes that the line holds, up to its newline.
 fn take(piece: &[u8; PIECE], line: &mut [u8], before: usize, unread: Unread) -> Gathered {
     let end = within(unread.end);
+    let room = line.len();
     let mut held = before;
     let mut at = unread.at;
     while at < end {
         let byte = piece[at];
         at += 1;
         if byte == NEWLINE {
-            return taken(true, held, at, unread);
+            return ended(held, at, end);
         }
         held = lines::keep(line, held, byte);
+        if held > room {
+            return pass(piece, held, at, unread);
+        }
     }
-    taken(false, held, at, unread)
+    not_ended(held, at, unread)
+}
+
+// Passes over the rest of a line that is too long, up to its newline.
+fn pass(piece: &[u8; PIECE], held: usize, from: usize, unread: Unread) -> Gathered {
+    let end = within(unread.end);
+    let mut at = from;
+    while at < end {
+        let byte = piece[at];
+        at += 1;
+        if byte == NEWLINE {
+            return ended(held, at, end);
+        }
+    }
+    not_ended(held, at, unread)
 }
 
 // A piece has no bytes past its end.
@@ -130,11 +148,27 @@ fn within(end: usize) -> usize
     if end < PIECE { end } else { PIECE }
 }
 
-fn taken(ended: bool, held: usize, at: usize, before: Unread) -> Gathered {
+// What a line has once its newline has come. The last read gave that byte, so it neither failed nor met the input's end.
+fn ended(held: usize, at: usize, end: usize) -> Gathered {
+    let unread = Unread {
+        at,
+        end,
+        open: true,
+        failed: false,
+    };
+    Gathered {
+        ended: true,
+        held,
+        unread,
+    }
+}
+
+// What it has if the piece has no newline for it.
+fn not_ended(held: usize, at: usize, before: Unread) -> Gathered {
     let mut unread = before;
     unread.at = at;
     Gathered {
-        ended,
+        ended: false,
         held,
         unread,
     }

@@ -7,10 +7,10 @@ use Rattle.input.proofs.take.Statement.{statement}
 use Rattle.input.proofs.take.Tie as tie
 
 abbrev Inv-loop : tie.InvT-loop
-Inv-loop piece line₀ before unread end held₀ at₀ line held at = length line ≡ length line₀
+Inv-loop piece line₀ before unread end room held₀ at₀ line held at = length line ≡ length line₀
 
 abbrev μ-loop : tie.MeasureT-loop
-μ-loop piece line₀ before unread end held₀ at₀ line held at = end - at
+μ-loop piece line₀ before unread end room held₀ at₀ line held at = end - at
 
 within-requires : tie.Need-within-requires Inv-loop μ-loop
 within-requires c κs = search needs
@@ -24,8 +24,8 @@ element-copy-out-byte c = search needs
 add-at : tie.Need-add-at Inv-loop μ-loop
 add-at c = search needs
 
-taken-requires : tie.Need-taken-requires Inv-loop μ-loop
-taken-requires c κs = search needs
+ended-requires : tie.Need-ended-requires Inv-loop μ-loop
+ended-requires c κs = search needs
 
 same-length : tie.Need-same-length Inv-loop μ-loop
 same-length c = search needs
@@ -36,20 +36,29 @@ returns c = search needs
 keep-requires : tie.Need-keep-requires Inv-loop μ-loop
 keep-requires c κs = search needs
 
-loop-less : tie.Need-loop-less Inv-loop μ-loop
-loop-less c = search needs
-
-loop-again : tie.Need-loop-again Inv-loop μ-loop
-loop-again c = search needs
-
-taken-requires-2 : tie.Need-taken-requires-2 Inv-loop μ-loop
-taken-requires-2 c κs = search needs
+pass-requires : tie.Need-pass-requires Inv-loop μ-loop
+pass-requires c κs = search needs
 
 same-length-2 : tie.Need-same-length-2 Inv-loop μ-loop
 same-length-2 c = search needs
 
 returns-2 : tie.Need-returns-2 Inv-loop μ-loop
 returns-2 c = search needs
+
+loop-less : tie.Need-loop-less Inv-loop μ-loop
+loop-less c = search needs
+
+loop-again : tie.Need-loop-again Inv-loop μ-loop
+loop-again c = search needs
+
+not-ended-requires : tie.Need-not-ended-requires Inv-loop μ-loop
+not-ended-requires c κs = search needs
+
+same-length-3 : tie.Need-same-length-3 Inv-loop μ-loop
+same-length-3 c = search needs
+
+returns-3 : tie.Need-returns-3 Inv-loop μ-loop
+returns-3 c = search needs
 
 pub take-spec : {M : Type 1} → statement M
 take-spec =
@@ -61,12 +70,15 @@ take-spec =
     loop-holds
     element-copy-out-byte
     add-at
-    taken-requires
+    ended-requires
     same-length
     returns
     keep-requires
+    pass-requires
+    same-length-2
+    returns-2
     loop-less
     loop-again
-    taken-requires-2
-    same-length-2
-    returns-2)
+    not-ended-requires
+    same-length-3
+    returns-3)
