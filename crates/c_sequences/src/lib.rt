@@ -4,7 +4,7 @@ ghost use mathlib.Core.Path.{_≡_};
 ghost use lib.ListN.{length};
 ghost use Rattle.c_crossing.specs.Crossing.{Crosses};
 ghost use Rattle.c_sequences.specs.Answers.{rangeCrossed, countCrossed, sequenceCrossed, columnCrossed};
-ghost use Rattle.lookup_sequences.specs.Answers.{rangeAnswer, countAnswer, sequenceAnswer, columnAnswer, columnLeft, sequenceIds};
+ghost use Rattle.lookup_sequences.specs.Answers.{rangeAnswer, sequenceCountAnswer, sequenceAnswer, columnAnswer, columnLeft, sequenceIds};
 ghost use Rattle.record.specs.Read.{read};
 use lookup_sequences::ColumnAnswer;
 use lookup_sequences::CountAnswer;
@@ -39,7 +39,7 @@ pub extern "C" fn noddrefyr_sequence_range(
 #[no_mangle]
 pub extern "C" fn noddrefyr_n_sequences(nodes: &[u32], rows: &[u32], answer: &mut [u32; 1]) -> u32
     ensures { λ r. ⌜ Crosses
-        (countCrossed (now (answer .entry)) (countAnswer (read (now (nodes .entry)) (now (rows .entry))))) r
+        (countCrossed (now (answer .entry)) (sequenceCountAnswer (read (now (nodes .entry)) (now (rows .entry))))) r
         (now (answer .exit)) ⌝ }
 {
     let found = lookup_sequences::n_sequences(nodes, rows);

@@ -64,12 +64,12 @@ keptRefusal (Refused k) = numberOf k
 keptRefusal (Alone n) = 0
 keptRefusal (Both n m) = 0
 
-abbrev pub firstOf : Kept → ℕ
-firstOf (Refused k) = 0
-firstOf (Alone n) = n
-firstOf (Both n m) = n
+abbrev pub firstKept : Kept → ℕ
+firstKept (Refused k) = 0
+firstKept (Alone n) = n
+firstKept (Both n m) = n
 
-abbrev pub secondOf : Kept → ℕ
-secondOf (Refused k) = 0
-secondOf (Alone n) = 0
-secondOf (Both n m) = m
+abbrev pub secondKept : Kept → ℕ
+secondKept (Refused k) = 0
+secondKept (Alone n) = 0
+secondKept (Both n m) = m

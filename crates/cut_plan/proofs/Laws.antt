@@ -9,7 +9,7 @@ use native.Mathlib.Omega.{arith}
 use mathlib.Core.List.{List, [], _∷_}
 use lib.ListN.{length, getD}
 use Rattle.lists.specs.Lists.{All}
-use Rattle.cut_plan.specs.Cut.{bounds, windowsOf, Cuts, ceiling, countOf, seen, windowAt}
+use Rattle.cut_plan.specs.Cut.{bounds, windowsOf, Cuts, ceiling, countOf, seenFrom, windowAt}
 use Rattle.cut_plan.specs.declared.Direction.{Direction}
 use Rattle.cut_plan.specs.declared.Direction.the-variants.{Left, Right}
 use Rattle.record.specs.declared.Bounds.{Bounds}
@@ -59,17 +59,17 @@ module _ {rows max stride : ℕ} (h : Cuts rows max stride) where
       go Left e = omega (arith, h .fewer)
 
   -- the kept one stands at the side that is kept
-  pub window-first : (d : Direction) → windowAt rows max stride d 0 ≡ seen d rows (bounds 0 max)
+  pub window-first : (d : Direction) → windowAt rows max stride d 0 ≡ seenFrom d rows (bounds 0 max)
   window-first d =
       let a : 0 * (max - stride) ≡ 0 = zero-mul (max - stride) in
       let b : min (0 * (max - stride) + max) rows ≡ max = omega (arith, a, h .fewer) in
-      ap (seen d rows) (ap₂ bounds a b)
+      ap (seenFrom d rows) (ap₂ bounds a b)
 
   -- the last one reaches the other side
-  pub window-last : (d : Direction) → windowAt rows max stride d last ≡ seen d rows (bounds (last * (max - stride)) rows)
+  pub window-last : (d : Direction) → windowAt rows max stride d last ≡ seenFrom d rows (bounds (last * (max - stride)) rows)
   window-last d =
       let b : min (last * (max - stride) + max) rows ≡ rows = omega (arith, h .fewer, ceiling-reaches (rows - max) (max - stride) (omega (arith, h .less))) in
-      ap (λ (e : ℕ). seen d rows (bounds (last * (max - stride)) e)) b
+      ap (λ (e : ℕ). seenFrom d rows (bounds (last * (max - stride)) e)) b
 
   -- each stands a step from the one before, and shares stride rows with it
   pub window-moved : (d : Direction) (i : ℕ) → i < last → moved d (windowAt rows max stride d i) (windowAt rows max stride d (suc i)) ≡ max - stride

@@ -12,7 +12,7 @@ use mathlib.Core.List.{List, [], _∷_, map}
 use lib.Dec.{leb, ltb}
 use lib.ListN.{length, getD, length-map}
 use borrow.Author.Tests.{le-leb, lt-leb, lt-ltb, le-ltb}
-use Rattle.cut_plan.specs.Cut.{bounds, rightFrom, leftFrom, Cuts, cuts, windowsOf, ceiling, countOf, mirror, seen, windowAt, rowsOf}
+use Rattle.cut_plan.specs.Cut.{bounds, rightFrom, leftFrom, Cuts, cuts, windowsOf, ceiling, countOf, mirror, seenFrom, windowAt, rowsOf}
 use Rattle.cut_plan.specs.declared.Direction.{Direction}
 use Rattle.cut_plan.specs.declared.Direction.the-variants.{Left, Right}
 use Rattle.record.specs.declared.Bounds.{Bounds}
@@ -161,7 +161,7 @@ module _ {rows max stride : ℕ} (h : Cuts rows max stride) where
   after-here = let z : rows - (0 + max) ≡ rows - max = omega arith in ap (λ (a : ℕ). ceiling a (max - stride)) z
 
   -- both directions at once: the windows of a right cut, as they are seen from the side that is kept
-  pub windows-seen : (d : Direction) → windowsOf rows max stride d ≡ map (seen d rows) (windowsOf rows max stride Right)
+  pub windows-seen : (d : Direction) → windowsOf rows max stride d ≡ map (seenFrom d rows) (windowsOf rows max stride Right)
   unfolding windowsOf
   windows-seen Right = sym (map-same _)
   windows-seen Left =
@@ -171,15 +171,15 @@ module _ {rows max stride : ℕ} (h : Cuts rows max stride) where
   -- "The number of windows is one plus the rows beyond max divided by max less stride, rounded up."
   pub windows-count : (d : Direction) → length (windowsOf rows max stride d) ≡ countOf rows max stride
   windows-count d =
-      ap length (windows-seen d) ∙ length-map (windowsOf rows max stride Right) (seen d rows) ∙ ap length right-here
+      ap length (windows-seen d) ∙ length-map (windowsOf rows max stride Right) (seenFrom d rows) ∙ ap length right-here
       ∙ right-length rows max (max - stride) rows 0 runs ∙ ap suc after-here ∙ sym (one-add _)
 
   -- window number i
   pub window-at : (d : Direction) (i : ℕ) (b : Bounds) → i < countOf rows max stride → getD (windowsOf rows max stride d) i b ≡ windowAt rows max stride d i
   window-at d i b k =
       let z : 0 + i * (max - stride) ≡ i * (max - stride) = omega arith in
-      ap (λ (l : List Bounds). getD l i b) (windows-seen d) ∙ at-map (seen d rows) (windowsOf rows max stride Right) i b b (omega (arith, windows-count Right))
-      ∙ ap (seen d rows) (ap (λ (l : List Bounds). getD l i b) right-here ∙ right-at rows max (max - stride) rows 0 i b runs (omega (arith, after-here)) ∙ ap (standing rows max (max - stride)) z)
+      ap (λ (l : List Bounds). getD l i b) (windows-seen d) ∙ at-map (seenFrom d rows) (windowsOf rows max stride Right) i b b (omega (arith, windows-count Right))
+      ∙ ap (seenFrom d rows) (ap (λ (l : List Bounds). getD l i b) right-here ∙ right-at rows max (max - stride) rows 0 i b runs (omega (arith, after-here)) ∙ ap (standing rows max (max - stride)) z)
 
   -- the rows of all windows: stride more for each but one
   pub windows-rows : (d : Direction) → rowsOf (windowsOf rows max stride d) ≡ rows + ceiling (rows - max) (max - stride) * stride
@@ -189,6 +189,6 @@ module _ {rows max stride : ℕ} (h : Cuts rows max stride) where
       ap rowsOf (windows-seen d) ∙ same d ∙ ap rowsOf right-here ∙ right-rows rows max (max - stride) rows 0 runs
       ∙ ap₂ _+_ z (ap₂ _*_ after-here shared)
     where
-      same : (d : Direction) → rowsOf (map (seen d rows) (windowsOf rows max stride Right)) ≡ rowsOf (windowsOf rows max stride Right)
+      same : (d : Direction) → rowsOf (map (seenFrom d rows) (windowsOf rows max stride Right)) ≡ rowsOf (windowsOf rows max stride Right)
       same Right = ap rowsOf (map-same (windowsOf rows max stride Right))
       same Left = rw right-here (mirrored-rows rows max (max - stride) rows 0)

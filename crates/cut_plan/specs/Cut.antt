@@ -73,13 +73,13 @@ abbrev pub mirror : ℕ → Bounds → Bounds
 mirror rows b = bounds (rows - b .end) (rows - b .start)
 
 -- as it is seen from the side that is kept
-abbrev pub seen : Direction → ℕ → Bounds → Bounds
-seen Right rows b = b
-seen Left rows b = mirror rows b
+abbrev pub seenFrom : Direction → ℕ → Bounds → Bounds
+seenFrom Right rows b = b
+seenFrom Left rows b = mirror rows b
 
 -- window number i
 abbrev pub windowAt : ℕ → ℕ → ℕ → Direction → ℕ → Bounds
-windowAt rows max stride d i = seen d rows (bounds (i * (max - stride)) (min (i * (max - stride) + max) rows))
+windowAt rows max stride d i = seenFrom d rows (bounds (i * (max - stride)) (min (i * (max - stride) + max) rows))
 
 -- the rows of all of them
 abbrev pub rowsOf : List Bounds → ℕ

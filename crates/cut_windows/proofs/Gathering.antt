@@ -10,7 +10,7 @@ use Rattle.record.specs.Tree.{Row, Encoding, forest, sequences, absent}
 use Rattle.record.specs.Flat.{rowNumbers, rangeNumbers, flatNodes, flatRows}
 use Rattle.record.proofs.Tree.{listed-forest}
 use Rattle.record.specs.declared.Bounds.{Bounds}
-use Rattle.cut_windows.specs.Made.{plain, part, gathered}
+use Rattle.cut_windows.specs.Made.{plain, stretchOf, gathered}
 use Rattle.record.specs.Standing.{Put}
 use Rattle.lists.proofs.Writing.{set-second}
 
@@ -26,11 +26,11 @@ module _ (r : List Row) (fs : List Encoding) where
   unfolding flatRows
   gathered-rows = ap (flatMap rowNumbers r ++_) (sym (append-nil (flatRows (forest fs))))
 
-pub gathered-put : (R : List Row) (bs : List Bounds) {count : ℕ} {nodes₀ rows₀ nodes₁ rows₁ : List ℕ} {a b : ℕ} → count ≡ length bs → 0 < count → Put (map (part R) bs) nodes₀ a rows₀ b nodes₁ rows₁ → Put (gathered (map (part R) bs) ∷ []) nodes₀ a rows₀ b (set nodes₁ (a + 1) (count - 1)) rows₁
+pub gathered-put : (R : List Row) (bs : List Bounds) {count : ℕ} {nodes₀ rows₀ nodes₁ rows₁ : List ℕ} {a b : ℕ} → count ≡ length bs → 0 < count → Put (map (stretchOf R) bs) nodes₀ a rows₀ b nodes₁ rows₁ → Put (gathered (map (stretchOf R) bs) ∷ []) nodes₀ a rows₀ b (set nodes₁ (a + 1) (count - 1)) rows₁
 gathered-put R [] {count} e k p = absurd (omega arith)
 gathered-put R (c ∷ bs) {count} {nodes₀} {rows₀} {nodes₁} {rows₁} {a} {b} e k p =
-    let m : count - 1 ≡ length (map (part R) bs) = omega (arith, length-map bs (part R)) in
+    let m : count - 1 ≡ length (map (stretchOf R) bs) = omega (arith, length-map bs (stretchOf R)) in
     record {
-      nodes-put = ap₂ (λ (l : List ℕ) (k : ℕ). set l (a + 1) k) (p .nodes-put) m ∙ gathered-nodes (part R c .rows) (map (part R) bs) nodes₀ a;
-      rows-put = p .rows-put ∙ ap (sets rows₀ b) (gathered-rows (part R c .rows) (map (part R) bs));
+      nodes-put = ap₂ (λ (l : List ℕ) (k : ℕ). set l (a + 1) k) (p .nodes-put) m ∙ gathered-nodes (stretchOf R c .rows) (map (stretchOf R) bs) nodes₀ a;
+      rows-put = p .rows-put ∙ ap (sets rows₀ b) (gathered-rows (stretchOf R c .rows) (map (stretchOf R) bs));
     }

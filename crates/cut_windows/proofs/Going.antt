@@ -16,7 +16,7 @@ use Rattle.cut_plan.specs.Cut.{windowsOf, rowsOf}
 use Rattle.cut_plan.specs.declared.Direction.{Direction}
 use Rattle.record.specs.declared.Bounds.{Bounds}
 use Rattle.cut_plan.proofs.Laws.{Sized, windows-sized}
-use Rattle.cut_windows.specs.Made.{part}
+use Rattle.cut_windows.specs.Made.{stretchOf}
 use Rattle.record.specs.Standing.{RowsAt, Put}
 use Rattle.record.proofs.Put.{put-none, put-more}
 use Rattle.cut_windows.specs.Contracts.{AskPart, AskWindows}
@@ -34,7 +34,7 @@ pub record Going (rows : List ℕ) (j n : ℕ) (bs : List Bounds) (nodes₀ : Li
   pub row-at : row ≡ b + rowsOf (take i bs) * rowWidth
   pub nodes-long : length nodes₁ ≡ length nodes₀
   pub rows-long : length rows₁ ≡ length rows₀
-  pub put : (R : List Row) → RowsAt rows j R → length R ≡ n → Put (map (part R) (take i bs)) nodes₀ a rows₀ b nodes₁ rows₁
+  pub put : (R : List Row) → RowsAt rows j R → length R ≡ n → Put (map (stretchOf R) (take i bs)) nodes₀ a rows₀ b nodes₁ rows₁
 
 pub going-start : (rows : List ℕ) (j n : ℕ) (bs : List Bounds) (nodes : List ℕ) (a : ℕ) (rows₀ : List ℕ) (b : ℕ) → Going rows j n bs nodes a rows₀ b nodes rows₀ a b 0
 going-start rows j n bs nodes a rows₀ b = record { within = omega arith; node-at = omega arith; row-at = omega arith; nodes-long = refl; rows-long = refl; put = λ R h l. put-none nodes rows₀ a b }
@@ -67,7 +67,7 @@ module _ {rows : List ℕ} {j n max stride : ℕ} {d : Direction} {nodes₀ : Li
         }
 
     pub going-on : {nodes₂ rows₂ : List ℕ} → length nodes₂ ≡ length nodes₁ → length rows₂ ≡ length rows₁
-        → ((R : List Row) → RowsAt rows j R → w .end ≤ length R → Put (part R w ∷ []) nodes₁ node rows₁ row nodes₂ rows₂)
+        → ((R : List Row) → RowsAt rows j R → w .end ≤ length R → Put (stretchOf R w ∷ []) nodes₁ node rows₁ row nodes₂ rows₂)
         → Going rows j n (windowsOf n max stride d) nodes₀ a rows₀ b nodes₂ rows₂ (node + nodeWidth) (row + (w .end - w .start) * rowWidth) (i + 1)
     going-on {nodes₂} {rows₂} ln lr p =
         record {
@@ -80,7 +80,7 @@ module _ {rows : List ℕ} {j n max stride : ℕ} {d : Direction} {nodes₀ : Li
               let bs = windowsOf n max stride d in
               let inside : All (Inside (length R)) (take i bs) = all-take (Inside (length R)) i bs (all-imp bs (λ (w : Bounds) (z : Sized n max stride w). omega (arith, z .inside)) sizes) in
               let one : take (i + 1) bs ≡ take i bs ++ (w ∷ []) = ap (λ (m : ℕ). take m bs) (add-one i) ∙ take-suc bs i e k ∙ ap (λ (w : Bounds). take i bs ++ (w ∷ [])) (sym at) in
-              let all : map (part R) (take (i + 1) bs) ≡ map (part R) (take i bs) ++ (part R w ∷ []) = ap (map (part R)) one ∙ map-append (part R) (take i bs) (w ∷ []) in
+              let all : map (stretchOf R) (take (i + 1) bs) ≡ map (stretchOf R) (take i bs) ++ (stretchOf R w ∷ []) = ap (map (stretchOf R)) one ∙ map-append (stretchOf R) (take i bs) (w ∷ []) in
               subst (λ (fs : List Encoding). Put fs nodes₀ a rows₀ b nodes₂ rows₂) (sym all)
               (put-more (g .put R h l)
               (omega (arith, g .node-at, parts-nodes-long R (take i bs), length-take-le i bs (g .within)))
@@ -88,7 +88,7 @@ module _ {rows : List ℕ} {j n max stride : ℕ} {d : Direction} {nodes₀ : Li
               (p R h (omega (arith, sized .inside))));
         }
 
-  pub going-end : i ≡ length (windowsOf n max stride d) → (R : List Row) → RowsAt rows j R → length R ≡ n → Put (map (part R) (windowsOf n max stride d)) nodes₀ a rows₀ b nodes₁ rows₁
+  pub going-end : i ≡ length (windowsOf n max stride d) → (R : List Row) → RowsAt rows j R → length R ≡ n → Put (map (stretchOf R) (windowsOf n max stride d)) nodes₀ a rows₀ b nodes₁ rows₁
   going-end e R h l =
       let bs = windowsOf n max stride d in
-      subst (λ (cs : List Bounds). Put (map (part R) cs) nodes₀ a rows₀ b nodes₁ rows₁) (ap (λ (m : ℕ). take m bs) e ∙ take-length bs) (g .put R h l)
+      subst (λ (cs : List Bounds). Put (map (stretchOf R) cs) nodes₀ a rows₀ b nodes₁ rows₁) (ap (λ (m : ℕ). take m bs) e ∙ take-length bs) (g .put R h l)

@@ -15,7 +15,7 @@ use Rattle.record.proofs.Flat.{length-numbers, row-stored, length-rows, flatNod
 use Rattle.record.proofs.Walk.{numbers-append}
 use Rattle.cut_plan.specs.Cut.{rowsOf}
 use Rattle.record.specs.declared.Bounds.{Bounds}
-use Rattle.cut_windows.specs.Made.{part}
+use Rattle.cut_windows.specs.Made.{stretchOf}
 use Rattle.record.specs.Standing.{RowsAt, Put}
 use Rattle.cut_windows.specs.Contracts.{head}
 use Rattle.cut_windows.proofs.Heads.{flat-plain}
@@ -34,21 +34,21 @@ stretch-numbers {rows} {j} {R} h s e k l =
     ap (take ((e - s) * rowWidth)) (sym (drop-drop (s * rowWidth) j rows) ∙ ap (drop (s * rowWidth)) all ∙ drop-at (flatMap rowNumbers A) _ (s * rowWidth) la)
     ∙ take-at (flatMap rowNumbers B) _ ((e - s) * rowWidth) lb
 
-flat-part-rows : (R : List Row) (b : Bounds) → flatRows (forest (part R b ∷ [])) ≡ flatMap rowNumbers (take (b .end - b .start) (drop (b .start) R))
+flat-part-rows : (R : List Row) (b : Bounds) → flatRows (forest (stretchOf R b ∷ [])) ≡ flatMap rowNumbers (take (b .end - b .start) (drop (b .start) R))
 unfolding flatRows
 flat-part-rows R b = append-nil _
 
-pub size-part : (R : List Row) (b : Bounds) → b .end ≤ length R → length (part R b .rows) ≡ b .end - b .start
+pub size-part : (R : List Row) (b : Bounds) → b .end ≤ length R → length (stretchOf R b .rows) ≡ b .end - b .start
 size-part R b h = length-take (b .end - b .start) (drop (b .start) R) ∙ omega (arith, length-drop (b .start) R)
 
 -- a part is written by its head and its numbers
 pub part-put : {rows : List ℕ} {j : ℕ} {R : List Row} {b : Bounds} {nodes₀ nodes₁ rows₀ rows₁ : List ℕ} {a c from size : ℕ} → from ≡ b .start → size ≡ b .end - b .start → RowsAt rows j R → b .start ≤ b .end → b .end ≤ length R
     → nodes₁ ≡ sets nodes₀ a (head (b .end - b .start) 0) → rows₁ ≡ sets rows₀ c (take (size * rowWidth) (drop (j + from * rowWidth) rows))
-    → Put (part R b ∷ []) nodes₀ a rows₀ c nodes₁ rows₁
+    → Put (stretchOf R b ∷ []) nodes₀ a rows₀ c nodes₁ rows₁
 unfolding flatNodes
 part-put {rows} {j} {R} {b} {nodes₀} {nodes₁} {rows₀} {rows₁} {a} {c} {from} {size} f z h k l n r =
     record {
-      nodes-put = n ∙ ap (sets nodes₀ a) (sym (flat-plain (part R b .rows) [] ∙ append-nil _ ∙ ap (λ (m : ℕ). head m 0) (size-part R b l)));
+      nodes-put = n ∙ ap (sets nodes₀ a) (sym (flat-plain (stretchOf R b .rows) [] ∙ append-nil _ ∙ ap (λ (m : ℕ). head m 0) (size-part R b l)));
       rows-put = r ∙ ap₂ (λ (f : ℕ) (z : ℕ). sets rows₀ c (take (z * rowWidth) (drop (j + f * rowWidth) rows))) f z ∙ ap (sets rows₀ c) (stretch-numbers h (b .start) (b .end) k l ∙ sym (flat-part-rows R b));
     }
 
@@ -58,28 +58,28 @@ abbrev pub Inside : ℕ → Bounds → Type 0
 Inside n b = b .end ≤ n
 
 module _ (R : List Row) where
-  pub parts-nodes : (bs : List Bounds) → nodesIn (forest (map (part R) bs)) ≡ length bs
+  pub parts-nodes : (bs : List Bounds) → nodesIn (forest (map (stretchOf R) bs)) ≡ length bs
   parts-nodes [] = refl
   parts-nodes (b ∷ bs) = omega (arith, parts-nodes bs)
 
-  pub parts-rows : (bs : List Bounds) → All (Inside (length R)) bs → rowsIn (forest (map (part R) bs)) ≡ rowsOf bs
+  pub parts-rows : (bs : List Bounds) → All (Inside (length R)) bs → rowsIn (forest (map (stretchOf R) bs)) ≡ rowsOf bs
   parts-rows [] h = refl
   parts-rows (b ∷ bs) (h, hs) = omega (arith, parts-rows bs hs, size-part R b h)
 
-  pub parts-levels : (b : Bounds) (bs : List Bounds) → levels (forest (map (part R) (b ∷ bs))) ≡ 1
+  pub parts-levels : (b : Bounds) (bs : List Bounds) → levels (forest (map (stretchOf R) (b ∷ bs))) ≡ 1
   parts-levels b [] = refl
   parts-levels b (c ∷ bs) = omega (arith, parts-levels c bs)
 
-  pub parts-nodes-long : (bs : List Bounds) → length (flatNodes (forest (map (part R) bs))) ≡ length bs * nodeWidth
+  pub parts-nodes-long : (bs : List Bounds) → length (flatNodes (forest (map (stretchOf R) bs))) ≡ length bs * nodeWidth
   unfolding flatNodes
   parts-nodes-long [] = omega arith
   parts-nodes-long (b ∷ bs) =
-      let e = ap length (flatNodes-append (part R b ∷ []) (map (part R) bs)) ∙ length-append (flatNodes (forest (part R b ∷ []))) (flatNodes (forest (map (part R) bs))) in
-      let p : length (flatNodes (forest (part R b ∷ []))) ≡ nodeWidth = ap length (flat-plain (part R b .rows) [] ∙ append-nil (head (length (part R b .rows)) 0)) in
+      let e = ap length (flatNodes-append (stretchOf R b ∷ []) (map (stretchOf R) bs)) ∙ length-append (flatNodes (forest (stretchOf R b ∷ []))) (flatNodes (forest (map (stretchOf R) bs))) in
+      let p : length (flatNodes (forest (stretchOf R b ∷ []))) ≡ nodeWidth = ap length (flat-plain (stretchOf R b .rows) [] ∙ append-nil (head (length (stretchOf R b .rows)) 0)) in
       omega (arith, parts-nodes-long bs)
 
-  pub parts-rows-long : (bs : List Bounds) → All (Inside (length R)) bs → length (flatRows (forest (map (part R) bs))) ≡ rowsOf bs * rowWidth
-  parts-rows-long bs h = length-rows (forest (map (part R) bs)) ∙ ap (λ (n : ℕ). n * rowWidth) (parts-rows bs h)
+  pub parts-rows-long : (bs : List Bounds) → All (Inside (length R)) bs → length (flatRows (forest (map (stretchOf R) bs))) ≡ rowsOf bs * rowWidth
+  parts-rows-long bs h = length-rows (forest (map (stretchOf R) bs)) ∙ ap (λ (n : ℕ). n * rowWidth) (parts-rows bs h)
 
 -- ---- The first i of them
 

@@ -11,8 +11,8 @@ abbrev pub plain : List Row → List Encoding → Encoding
 plain r ws = encoding r (replicate sequences absent) ws
 
 -- a stretch of rows, as an encoding: "ranges and old windows are dropped"
-abbrev pub part : List Row → Bounds → Encoding
-part r b = plain (take (b .end - b .start) (drop (b .start) r)) []
+abbrev pub stretchOf : List Row → Bounds → Encoding
+stretchOf r b = plain (take (b .end - b .start) (drop (b .start) r)) []
 
 -- "The first becomes the encoding, the others its windows in that order."
 abbrev pub gathered : List Encoding → Encoding

@@ -5,7 +5,7 @@ ghost use Prim.Native.Nat.{_+_, _≤_};
 ghost use lib.ListN.{length};
 ghost use lib.Seq.{sets};
 ghost use Rattle.cut_plan.specs.Cut.{windowsOf};
-ghost use Rattle.cut_windows.specs.Made.{part, gathered};
+ghost use Rattle.cut_windows.specs.Made.{stretchOf, gathered};
 ghost use Rattle.cut_windows.specs.Contracts.{head, AskPart, AskWindows, MakesOfRows};
 ghost use Rattle.record.specs.Flat.{nodeWidth};
 ghost use Rattle.record.specs.Standing.{RowsAt, Put};
@@ -35,7 +35,7 @@ fn write_part(
     b: usize,
 )
     requires { ⌜ AskPart (now rows) j stretch (now «out_nodes») a (now «out_rows») b ⌝ }
-    ensures { λ _. ⌜ ((R : List Row) → RowsAt (now (rows .entry)) j R → stretch .end ≤ length R → Put (part R stretch ∷ [])
+    ensures { λ _. ⌜ ((R : List Row) → RowsAt (now (rows .entry)) j R → stretch .end ≤ length R → Put (stretchOf R stretch ∷ [])
         (now («out_nodes» .entry)) a (now («out_rows» .entry)) b (now («out_nodes» .exit)) (now («out_rows» .exit))) ⌝ }
 {
     let size = stretch.end - stretch.start;
@@ -64,7 +64,7 @@ fn write_windows(
     b: usize,
 )
     requires { ⌜ AskWindows (now rows) j n max stride direction (now «out_nodes») a (now «out_rows») b ⌝ }
-    ensures { λ _. ⌜ MakesOfRows (λ R. map (part R) (windowsOf n max stride direction)) (now (rows .entry)) j n
+    ensures { λ _. ⌜ MakesOfRows (λ R. map (stretchOf R) (windowsOf n max stride direction)) (now (rows .entry)) j n
         (now («out_nodes» .entry)) a (now («out_rows» .entry)) b (now («out_nodes» .exit)) (now («out_rows» .exit)) ⌝ }
 {
     let count = cut_plan::count_windows(n, max, stride);
@@ -96,7 +96,7 @@ pub fn write_cut(
 )
     requires { ⌜ (AskWindows (now rows) j n max stride direction (now «out_nodes») a (now «out_rows») b) ×
         (count ≡ length (windowsOf n max stride direction)) ⌝ }
-    ensures { λ _. ⌜ MakesOfRows (λ R. gathered (map (part R) (windowsOf n max stride direction)) ∷ []) (now (rows .entry)) j n
+    ensures { λ _. ⌜ MakesOfRows (λ R. gathered (map (stretchOf R) (windowsOf n max stride direction)) ∷ []) (now (rows .entry)) j n
         (now («out_nodes» .entry)) a (now («out_rows» .entry)) b (now («out_nodes» .exit)) (now («out_rows» .exit)) ⌝ }
 {
     write_windows(

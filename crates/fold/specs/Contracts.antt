@@ -11,7 +11,7 @@ use Rattle.record_room.specs.declared.Size.{Size}
 use Rattle.join_size.specs.Contracts.{Sizes}
 
 -- the two lists store `count` encodings
-pub record AskSize (nodes rows : List ℕ) (count : ℕ) : Type 0 where
+pub record AskFoldSize (nodes rows : List ℕ) (count : ℕ) : Type 0 where
   pub f : Forest
   pub stores : Stores nodes rows f
   pub counts : count ≡ tops f

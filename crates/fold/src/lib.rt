@@ -1,5 +1,5 @@
 // Fold of a batch (document 01, `merge`): its encodings joined one after another, from the empty encoding on.
-ghost use Rattle.fold.specs.Contracts.{AskSize, SizesFold};
+ghost use Rattle.fold.specs.Contracts.{AskFoldSize, SizesFold};
 ghost use Rattle.join_trees.specs.Outcomes.{foldOutcome};
 ghost use Rattle.record.specs.Read.{read};
 ghost use Rattle.record.specs.Working.{WritesWith};
@@ -11,7 +11,7 @@ use record_room::Size;
 
 // What the fold of a batch of `count` encodings takes. Where none of them has windows it is one node with all the rows.
 fn fold_size(nodes: &[u32], rows: &[u32], count: usize) -> Size
-    requires { ⌜ AskSize (now nodes) (now rows) count ⌝ }
+    requires { ⌜ AskFoldSize (now nodes) (now rows) count ⌝ }
     ensures { λ r. ⌜ SizesFold (now (nodes .entry)) (now (rows .entry)) r ⌝ }
 {
     if nodes.len() == count * Encoding::NODE_WIDTH {

@@ -17,15 +17,15 @@ use Rattle.join_trees.proofs.Folds.{foldFrom-append, fold-last}
 use Rattle.join_trees.proofs.Sizes.{fold-no-less, no-more-fits}
 use Rattle.join_levels.specs.declared.Profile.{Profile}
 use Rattle.join_levels.specs.declared.Answer.{Answer}
-use Rattle.join_levels.specs.Levels.{weightAt, one, ProfileOf, Profiled, Measures}
-use Rattle.join_table.specs.Table.{levelCount, at, below}
-use Rattle.fold_levels.specs.Contracts.{Holds}
+use Rattle.join_levels.specs.Levels.{weightAt, countedOnce, ProfileOf, Profiled, Measures}
+use Rattle.join_table.specs.Table.{levelCount, at, sumBelow}
+use Rattle.fold_levels.specs.Contracts.{HoldsNodes}
 use Rattle.join_levels_stored.specs.Contracts.{EncodingAt}
 use Rattle.join_table.proofs.Passes.{zeros}
 use Rattle.join_levels.proofs.Limits.{refuses, answers}
 
 -- A batch as it is lent.
-pub stores-holds : {nodes rows : List ℕ} {f : Forest} → Stores nodes rows f → Holds nodes f
+pub stores-holds : {nodes rows : List ℕ} {f : Forest} → Stores nodes rows f → HoldsNodes nodes f
 stores-holds s = record { is = s .nodes-are; well = s .well }
 
 -- ---- The empty encoding
@@ -34,7 +34,7 @@ pub empty-is : ProfileOf empty (record { nodes = set (replicate levelCount 0) 0 
 unfolding weightAt
 empty-is = record { deep = refl; nodes = nodes-are; rows = rows-are }
   where
-    nodes-are : (d : ℕ) → at (set (replicate levelCount 0) 0 1) d ≡ weightAt one d empty
+    nodes-are : (d : ℕ) → at (set (replicate levelCount 0) 0 1) d ≡ weightAt countedOnce d empty
     nodes-are zero = refl
     nodes-are (suc d) = zeros levelCount (suc d)
 
@@ -53,7 +53,7 @@ pub record Stepped (g : Bool) (nodes : List ℕ) (f : Forest) (p : Profile) (i :
   pub profile : ProfileOf (fold g folded) p
   pub fits : Fits (forest (fold g folded ∷ []))
 
-pub stepped-start : {nodes : List ℕ} {f : Forest} {p : Profile} (g : Bool) → Holds nodes f → ProfileOf empty p → Stepped g nodes f p 0
+pub stepped-start : {nodes : List ℕ} {f : Forest} {p : Profile} (g : Bool) → HoldsNodes nodes f → ProfileOf empty p → Stepped g nodes f p 0
 stepped-start {nodes} {f} {p} g h o = record {
   folded = [];
   left = f;

@@ -12,14 +12,14 @@ use Rattle.join_levels.specs.declared.Answer.{Answer}
 use Rattle.join_levels.specs.Levels.{Measures}
 
 -- The nodes are those of a well-formed batch.
-pub record Holds (nodes : List ℕ) (f : Forest) : Type 0 where
+pub record HoldsNodes (nodes : List ℕ) (f : Forest) : Type 0 where
   pub is : flatNodes f ≡ nodes
   pub well : WellFormed f
 
 pub record Held (nodes : List ℕ) : Type 0 where
   pub f : Forest
-  pub holds : Holds nodes f
+  pub holds : HoldsNodes nodes f
 
 -- The fold of any encodings that these nodes store, growing or not.
 abbrev pub MeasuresFold : List ℕ → Answer → Type 0
-MeasuresFold nodes r = (growing : Bool) (f : Forest) → Holds nodes f → Measures (fold growing (listed f)) r
+MeasuresFold nodes r = (growing : Bool) (f : Forest) → HoldsNodes nodes f → Measures (fold growing (listed f)) r

@@ -6,16 +6,16 @@ use Prim.Native.Nat.{ℕ, zero, suc, _+_, _≤_, _<_}
 use native.Mathlib.Omega.{arith}
 use lib.ListN.{length, getD, take, drop}
 use lib.Seq.{getD-take, getD-drop}
-use Rattle.join_add.specs.Contracts.{added}
+use Rattle.join_add.specs.Contracts.{sums}
 
-pub length-added : (xs ds : List ℕ) → length xs ≤ length ds → length (added xs ds) ≡ length xs
-unfolding added
+pub length-added : (xs ds : List ℕ) → length xs ≤ length ds → length (sums xs ds) ≡ length xs
+unfolding sums
 length-added [] ds h = refl
 length-added (x ∷ xs) [] h = absurd (omega arith)
 length-added (x ∷ xs) (d ∷ ds) h = ap suc (length-added xs ds (omega arith))
 
-pub getD-added : (xs ds : List ℕ) (k : ℕ) → k < length xs → length xs ≤ length ds → getD (added xs ds) k 0 ≡ getD xs k 0 + getD ds k 0
-unfolding added
+pub getD-added : (xs ds : List ℕ) (k : ℕ) → k < length xs → length xs ≤ length ds → getD (sums xs ds) k 0 ≡ getD xs k 0 + getD ds k 0
+unfolding sums
 getD-added [] ds k l h = absurd (omega arith)
 getD-added (x ∷ xs) [] k l h = absurd (omega arith)
 getD-added (x ∷ xs) (d ∷ ds) zero l h = refl

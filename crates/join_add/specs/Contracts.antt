@@ -7,10 +7,10 @@ use lib.ListN.{length, getD}
 use Rattle.join_trees.specs.Offsets.{mostOffset}
 
 -- the numbers ds added to the numbers xs, one to one
-unfoldable pub added : List ℕ → List ℕ → List ℕ
-added [] ds = []
-added (x ∷ xs) [] = []
-added (x ∷ xs) (d ∷ ds) = (x + d) ∷ added xs ds
+unfoldable pub sums : List ℕ → List ℕ → List ℕ
+sums [] ds = []
+sums (x ∷ xs) [] = []
+sums (x ∷ xs) (d ∷ ds) = (x + d) ∷ sums xs ds
 
 -- There are enough of them, there is room, and the sums stay within 32 bits.
 pub record AskAdd (src more dst : List ℕ) : Type 0 where

@@ -16,8 +16,8 @@ use Rattle.join_trees.specs.Join.{join}
 use Rattle.join_trees.proofs.Sizes.{total, total-nodes, total-rows, levels-join}
 use Rattle.join_levels.specs.declared.Profile.{Profile}
 use Rattle.join_levels.specs.declared.Answer.{Answer}
-use Rattle.join_table.specs.Table.{levelCount, at, below, joined}
-use Rattle.join_levels.specs.Levels.{one, weightAt, nodesAt, rowsAt, ProfileOf, Profiled, Measures}
+use Rattle.join_table.specs.Table.{levelCount, at, sumBelow, joinedLevel}
+use Rattle.join_levels.specs.Levels.{countedOnce, weightAt, nodesAt, rowsAt, ProfileOf, Profiled, Measures}
 use Rattle.join_table.specs.Contracts.{Has, Small4}
 use Rattle.join_table.proofs.Numbers.{below-next, below-mono, below-same, joined-none-left}
 use Rattle.join_table.proofs.Passes.{zeros}
@@ -30,7 +30,7 @@ level-few c E n h d =
     omega (arith, total-one c E (levels (E .below) + d + 1) (omega arith), below-next (λ i. weightAt c i E) d, below-mono (λ i. weightAt c i E) (d + 1) (levels (E .below) + d + 1) (omega arith))
 
 pub few-nodes-at : {p : Profile} → Profiled p → (i : ℕ) → at (p .nodes) i ≤ mostNodes
-few-nodes-at {p} h i = omega (arith, h .is .nodes i, level-few one (h .E) mostNodes (omega (arith, total-nodes (forest (h .E ∷ [])), h .fits .few-nodes)) i)
+few-nodes-at {p} h i = omega (arith, h .is .nodes i, level-few countedOnce (h .E) mostNodes (omega (arith, total-nodes (forest (h .E ∷ [])), h .fits .few-nodes)) i)
 
 pub few-rows-at : {p : Profile} → Profiled p → (i : ℕ) → at (p .rows) i ≤ mostRows
 few-rows-at {p} h i = omega (arith, h .is .rows i, level-few length (h .E) mostRows (omega (arith, total-rows (forest (h .E ∷ [])), h .fits .few-rows)) i)
@@ -58,12 +58,12 @@ pub answers : {E : Encoding} {p : Profile} → ProfileOf E p → Fits (forest (E
 answers o f = record { fitting = λ h. (o, f); too-large = λ e. absurd (let z : _≡_ {A = ℕ} 0 1 = cc in omega arith) }
 
 module _ (g : Bool) (S P : Encoding) (s p : Profile) (os : ProfileOf S s) (op : ProfileOf P p) where
-  nodes-of : (d : ℕ) → joined d (at (s .nodes)) (at (p .nodes)) ≡ nodesAt d (join g S P)
-  nodes-of d = ap₂ (joined d) (fun-ext (os .nodes)) (fun-ext (op .nodes)) ∙ sym (nodes-join g d S P)
+  nodes-of : (d : ℕ) → joinedLevel d (at (s .nodes)) (at (p .nodes)) ≡ nodesAt d (join g S P)
+  nodes-of d = ap₂ (joinedLevel d) (fun-ext (os .nodes)) (fun-ext (op .nodes)) ∙ sym (nodes-join g d S P)
 
-  rows-of : (d : ℕ) → joined d (at (s .rows)) (at (p .nodes)) + joined d (at (s .nodes)) (at (p .rows)) ≡ rowsAt d (join g S P)
+  rows-of : (d : ℕ) → joinedLevel d (at (s .rows)) (at (p .nodes)) + joinedLevel d (at (s .nodes)) (at (p .rows)) ≡ rowsAt d (join g S P)
   rows-of d =
-      ap₂ _+_ (ap₂ (joined d) (fun-ext (os .rows)) (fun-ext (op .nodes))) (ap₂ (joined d) (fun-ext (os .nodes)) (fun-ext (op .rows)))
+      ap₂ _+_ (ap₂ (joinedLevel d) (fun-ext (os .rows)) (fun-ext (op .nodes))) (ap₂ (joinedLevel d) (fun-ext (os .nodes)) (fun-ext (op .rows)))
       ∙ sym (rows-join g d S P)
 
   deep-of : s .levels + p .levels ≡ levels (join g S P .below)
@@ -74,7 +74,7 @@ module _ (g : Bool) (S P : Encoding) (s p : Profile) (os : ProfileOf S s) (op : 
 
   -- what a list of sums over the levels says of the join
   module _ (c : List Row → ℕ) (l : List ℕ) (f : ℕ → ℕ) (has : Has l (s .levels + p .levels) f) (is : (d : ℕ) → f d ≡ weightAt c d (join g S P)) where
-    levels-all : below (s .levels + p .levels + 1) (at l) ≡ total c (forest (join g S P ∷ []))
+    levels-all : sumBelow (s .levels + p .levels + 1) (at l) ≡ total c (forest (join g S P ∷ []))
     levels-all =
         below-same (s .levels + p .levels + 1) (at l) (λ d. weightAt c d (join g S P)) (λ d h. has .upto d (omega arith) ∙ is d)
         ∙ sym (total-one c (join g S P) (s .levels + p .levels + 1) (omega (arith, deep-of)))
@@ -85,34 +85,34 @@ module _ (g : Bool) (S P : Encoding) (s p : Profile) (os : ProfileOf S s) (op : 
         (λ z. has .beyond d (omega arith) ∙ sym (beyond-one c (join g S P) d (omega (arith, deep-of))))
         (eq-zero-or-pos (d - (s .levels + p .levels)))
 
-    few : {b : Bool} {n : ℕ} → b ≡ leb (below (s .levels + p .levels + 1) (at l)) n → b ≡ true → total c (forest (join g S P ∷ [])) ≤ n
-    few {b} {n} e t = omega (arith, levels-all, leb-true (below (s .levels + p .levels + 1) (at l)) n (sym e ∙ t))
+    few : {b : Bool} {n : ℕ} → b ≡ leb (sumBelow (s .levels + p .levels + 1) (at l)) n → b ≡ true → total c (forest (join g S P ∷ [])) ≤ n
+    few {b} {n} e t = omega (arith, levels-all, leb-true (sumBelow (s .levels + p .levels + 1) (at l)) n (sym e ∙ t))
 
-    many : {b : Bool} {n : ℕ} → b ≡ leb (below (s .levels + p .levels + 1) (at l)) n → b ≡ false → n < total c (forest (join g S P ∷ []))
-    many {b} {n} e t = omega (arith, levels-all, leb-false (below (s .levels + p .levels + 1) (at l)) n (sym e ∙ t))
+    many : {b : Bool} {n : ℕ} → b ≡ leb (sumBelow (s .levels + p .levels + 1) (at l)) n → b ≡ false → n < total c (forest (join g S P ∷ []))
+    many {b} {n} e t = omega (arith, levels-all, leb-false (sumBelow (s .levels + p .levels + 1) (at l)) n (sym e ∙ t))
 
-  one-join : {l : List ℕ} {m : ℕ} → Has l m (λ d. joined d (at (replicate levelCount 0)) (at (replicate levelCount 0)) + joined d (at (s .nodes)) (at (p .nodes))) → Has l m (λ d. joined d (at (s .nodes)) (at (p .nodes)))
+  one-join : {l : List ℕ} {m : ℕ} → Has l m (λ d. joinedLevel d (at (replicate levelCount 0)) (at (replicate levelCount 0)) + joinedLevel d (at (s .nodes)) (at (p .nodes))) → Has l m (λ d. joinedLevel d (at (s .nodes)) (at (p .nodes)))
   one-join h = record {
-    upto = λ d l. omega (arith, h .upto d l, ap (λ (f : ℕ → ℕ). joined d f (at (replicate levelCount 0))) (fun-ext (zeros levelCount)) ∙ joined-none-left d (at (replicate levelCount 0)));
+    upto = λ d l. omega (arith, h .upto d l, ap (λ (f : ℕ → ℕ). joinedLevel d f (at (replicate levelCount 0))) (fun-ext (zeros levelCount)) ∙ joined-none-left d (at (replicate levelCount 0)));
     beyond = h .beyond;
   }
 
   module _ {nodes rows : List ℕ} {b : Bool}
-      (hn : Has nodes (s .levels + p .levels) (λ d. joined d (at (replicate levelCount 0)) (at (replicate levelCount 0)) + joined d (at (s .nodes)) (at (p .nodes))))
-      (hr : Has rows (s .levels + p .levels) (λ d. joined d (at (s .rows)) (at (p .nodes)) + joined d (at (s .nodes)) (at (p .rows))))
-      (en : b ≡ leb (below (s .levels + p .levels + 1) (at nodes)) mostNodes) where
+      (hn : Has nodes (s .levels + p .levels) (λ d. joinedLevel d (at (replicate levelCount 0)) (at (replicate levelCount 0)) + joinedLevel d (at (s .nodes)) (at (p .nodes))))
+      (hr : Has rows (s .levels + p .levels) (λ d. joinedLevel d (at (s .rows)) (at (p .nodes)) + joinedLevel d (at (s .nodes)) (at (p .rows))))
+      (en : b ≡ leb (sumBelow (s .levels + p .levels + 1) (at nodes)) mostNodes) where
     pub many-nodes : {r : Answer} → b ≡ false → r .fits ≡ false → Measures (join g S P) r
-    many-nodes t e = refuses e (λ f. omega (arith, many one nodes _ (one-join hn) nodes-of en t, total-nodes (forest (join g S P ∷ [])), f .few-nodes))
+    many-nodes t e = refuses e (λ f. omega (arith, many countedOnce nodes _ (one-join hn) nodes-of en t, total-nodes (forest (join g S P ∷ [])), f .few-nodes))
 
-    module _ {b′ : Bool} (er : b′ ≡ leb (below (s .levels + p .levels + 1) (at rows)) mostRows) where
+    module _ {b′ : Bool} (er : b′ ≡ leb (sumBelow (s .levels + p .levels + 1) (at rows)) mostRows) where
       pub many-rows : {r : Answer} → b′ ≡ false → r .fits ≡ false → Measures (join g S P) r
       many-rows t e = refuses e (λ f. omega (arith, many length rows _ hr rows-of er t, total-rows (forest (join g S P ∷ [])), f .few-rows))
 
       pub fitting : b ≡ true → b′ ≡ true → s .levels + p .levels ≤ mostLevels → Measures (join g S P) (record { fits = true; profile = record { nodes = nodes; rows = rows; levels = s .levels + p .levels } })
       fitting t t′ l =
-          answers (record { deep = deep-of; nodes = every one nodes _ (one-join hn) nodes-of; rows = every length rows _ hr rows-of })
+          answers (record { deep = deep-of; nodes = every countedOnce nodes _ (one-join hn) nodes-of; rows = every length rows _ hr rows-of })
           (record {
-            few-nodes = omega (arith, few one nodes _ (one-join hn) nodes-of en t, total-nodes (forest (join g S P ∷ [])));
+            few-nodes = omega (arith, few countedOnce nodes _ (one-join hn) nodes-of en t, total-nodes (forest (join g S P ∷ [])));
             few-rows = omega (arith, few length rows _ hr rows-of er t′, total-rows (forest (join g S P ∷ [])));
             few-levels = omega (arith, deep-of);
           })

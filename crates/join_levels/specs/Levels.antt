@@ -23,11 +23,11 @@ weightAt c zero E = c (E .rows)
 weightAt c (suc d) E = sum (map (weightAt c d) (windows E))
 
 -- an encoding counts once
-abbrev pub one : List Row → ℕ
-one r = 1
+abbrev pub countedOnce : List Row → ℕ
+countedOnce r = 1
 
 abbrev pub nodesAt : ℕ → Encoding → ℕ
-nodesAt d E = weightAt one d E
+nodesAt d E = weightAt countedOnce d E
 
 abbrev pub rowsAt : ℕ → Encoding → ℕ
 rowsAt d E = weightAt length d E

@@ -4,7 +4,7 @@ ghost use mathlib.Core.Path.{_≡_};
 ghost use mathlib.Core.Bool.{false};
 ghost use Prim.Native.Nat.{_≤_};
 ghost use lib.Dec.{leb};
-ghost use Rattle.join_table.specs.Table.{levelCount, at, below};
+ghost use Rattle.join_table.specs.Table.{levelCount, at, sumBelow};
 ghost use Rattle.join_levels.specs.Levels.{Profiled};
 ghost use Rattle.join_levels.specs.Contracts.{SizesJoin};
 use join_table::LEVELS;
@@ -75,7 +75,7 @@ pub fn too_large() -> Answer
 // Whether the first n add up to no more than the limit.
 fn within(a: [usize; LEVELS], n: usize, limit: usize) -> bool
     requires { ⌜ n ≤ levelCount ⌝ }
-    ensures { λ r. ⌜ r ≡ leb (below n (at a)) limit ⌝ }
+    ensures { λ r. ⌜ r ≡ leb (sumBelow n (at a)) limit ⌝ }
 {
     let mut left = limit;
     let mut i = 0;

@@ -15,7 +15,7 @@ use Rattle.record.specs.Standing.{At}
 use Rattle.record.proofs.Flat.{length-numbers, range-stored, drop-node, length-nodes}
 use Rattle.record.proofs.Standing.{at-size, at-count}
 use Rattle.join_trees.proofs.Sizes.{total-nodes, total-rows}
-use Rattle.join_levels.specs.Levels.{weightAt, one, nodesAt, rowsAt, ProfileOf}
+use Rattle.join_levels.specs.Levels.{weightAt, countedOnce, nodesAt, rowsAt, ProfileOf}
 use Rattle.join_table.specs.Table.{levelCount, at}
 use Rattle.join_levels_stored.specs.Contracts.{EncodingAt}
 use Rattle.join_table.proofs.Passes.{zeros}
@@ -65,7 +65,7 @@ pub record Open (nodes : List ℕ) (E : Encoding) (pending counted rows : List �
   pub is : drop i nodes ≡ flats stack ++ rest
   pub fine : All Fine stack
   pub near : Near stack
-  pub nodes-are : (d : ℕ) → at counted d + leftAt one stack d ≡ nodesAt d E
+  pub nodes-are : (d : ℕ) → at counted d + leftAt countedOnce stack d ≡ nodesAt d E
   pub rows-are : (d : ℕ) → at rows d + leftAt length stack d ≡ rowsAt d E
   pub deep-is : max deep (deepest stack) ≡ suc (levels (E .below))
 
@@ -223,7 +223,7 @@ due {nodes} {E} {pending} {counted} {rows} {deep} {depth} {i} level l e z = go (
 -- So far no more was counted than an encoding within the limits has.
 module _ {nodes : List ℕ} {E : Encoding} {pending counted rows : List ℕ} {deep i level start : ℕ} (s : EncodingAt nodes start E) (o : Due nodes E pending counted rows deep i level) where
   pub due-few-nodes : (d : ℕ) → at counted d ≤ mostNodes
-  due-few-nodes d = omega (arith, o .stands-open .nodes-are d, level-few one E mostNodes (omega (arith, total-nodes (forest (E ∷ [])), s .well .fits .few-nodes)) d)
+  due-few-nodes d = omega (arith, o .stands-open .nodes-are d, level-few countedOnce E mostNodes (omega (arith, total-nodes (forest (E ∷ [])), s .well .fits .few-nodes)) d)
 
   pub due-few-rows : (d : ℕ) → at rows d ≤ mostRows
   due-few-rows d = omega (arith, o .stands-open .rows-are d, level-few length E mostRows (omega (arith, total-rows (forest (E ∷ [])), s .well .fits .few-rows)) d)
@@ -267,7 +267,7 @@ due-next {nodes} {E} {pending} {counted} {rows} {deep} {i} {level} depth m v n u
         is = sym (drop-drop nodeWidth i nodes) ∙ ap (drop nodeWidth) (o .is ∙ append-assoc (flatNodes (node (u .r) (u .q) (u .w) (u .x))) (flats fs) (o .rest)) ∙ drop-head (u .r) (u .q) (u .w) (u .x) (flats fs ++ o .rest) (o .fine .0 .0) ∙ simp append-assoc;
         fine = (o .fine .0 .1, (o .fine .0 .2, o .fine .1));
         near = (omega (arith, o .near .0), (omega (arith, o .near .0), o .near .1));
-        nodes-are = λ d. rw el (omega (arith, o .nodes-are d, added counted (length fs) 1 d (omega (arith, u .counted-long, u .level-low, u .level-is)), lowered-node one (length fs) (u .r) (u .q) (u .w) (u .x) d));
+        nodes-are = λ d. rw el (omega (arith, o .nodes-are d, added counted (length fs) 1 d (omega (arith, u .counted-long, u .level-low, u .level-is)), lowered-node countedOnce (length fs) (u .r) (u .q) (u .w) (u .x) d));
         rows-are = λ d. rw (el, en ∙ u .size) (omega (arith, o .rows-are d, added rows (length fs) (length (u .r)) d (omega (arith, u .rows-long, u .level-low, u .level-is)), lowered-node length (length fs) (u .r) (u .q) (u .w) (u .x) d));
         deep-is = ap (λ (k : ℕ). max (max deep k) (deepest (u .w ∷ u .x ∷ fs))) ed ∙ deeper (u .w) (u .x) deep (length fs) (deepest fs) ∙ o .deep-is;
       };

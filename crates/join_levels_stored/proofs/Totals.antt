@@ -11,18 +11,18 @@ use Rattle.record.specs.Standing.{One}
 use Rattle.record.proofs.One.{one-at}
 use Rattle.join_trees.proofs.Sizes.{total-nodes, total-rows}
 use Rattle.join_levels.specs.declared.Profile.{Profile}
-use Rattle.join_levels.specs.Levels.{weightAt, one, ProfileOf, Profiled}
-use Rattle.join_table.specs.Table.{levelCount, at, below}
+use Rattle.join_levels.specs.Levels.{weightAt, countedOnce, ProfileOf, Profiled}
+use Rattle.join_table.specs.Table.{levelCount, at, sumBelow}
 use Rattle.join_table.proofs.Numbers.{below-same}
 use Rattle.join_levels.proofs.Profiles.{total-one}
 use Rattle.join_levels.proofs.Limits.{few-levels-of}
 use Rattle.join_levels_stored.specs.Contracts.{EncodingAt}
 
 module _ {p : Profile} (h : Profiled p) (E : Encoding) (o : ProfileOf E p) where
-  pub counts-nodes : below levelCount (at (p .nodes)) ≡ nodesIn (forest (E ∷ []))
-  counts-nodes = below-same levelCount (at (p .nodes)) (λ d. weightAt one d E) (λ d l. o .nodes d) ∙ sym (total-one one E levelCount (omega (arith, few-levels-of h, o .deep))) ∙ total-nodes (forest (E ∷ []))
+  pub counts-nodes : sumBelow levelCount (at (p .nodes)) ≡ nodesIn (forest (E ∷ []))
+  counts-nodes = below-same levelCount (at (p .nodes)) (λ d. weightAt countedOnce d E) (λ d l. o .nodes d) ∙ sym (total-one countedOnce E levelCount (omega (arith, few-levels-of h, o .deep))) ∙ total-nodes (forest (E ∷ []))
 
-  pub counts-rows : below levelCount (at (p .rows)) ≡ rowsIn (forest (E ∷ []))
+  pub counts-rows : sumBelow levelCount (at (p .rows)) ≡ rowsIn (forest (E ∷ []))
   counts-rows = below-same levelCount (at (p .rows)) (λ d. weightAt length d E) (λ d l. o .rows d) ∙ sym (total-one length E levelCount (omega (arith, few-levels-of h, o .deep))) ∙ total-rows (forest (E ∷ []))
 
 -- A batch of one encoding: it stands at the beginning of its nodes.

@@ -2,7 +2,7 @@
 // anything.
 ghost use mathlib.Core.Path.{_≡_};
 ghost use Prim.Native.Nat.{ℕ, _≤_};
-ghost use Rattle.join_table.specs.Table.{levelCount, at, below};
+ghost use Rattle.join_table.specs.Table.{levelCount, at, sumBelow};
 ghost use Rattle.join_levels.specs.Levels.{Profiled};
 ghost use Rattle.join_levels_stored.specs.Contracts.{Standing, ProfilesAt, CountsNodes, CountsRows};
 ghost use Rattle.record.specs.WellFormed.{mostRows};
@@ -70,7 +70,7 @@ pub fn rows_in(p: Profile) -> usize
 // All of them added up.
 fn sum(a: [usize; LEVELS]) -> usize
     requires { ⌜ ((i : ℕ) → at a i ≤ mostRows) ⌝ }
-    ensures { λ r. ⌜ r ≡ below levelCount (at a) ⌝ }
+    ensures { λ r. ⌜ r ≡ sumBelow levelCount (at a) ⌝ }
 {
     let mut all = 0;
     let mut i = 0;

@@ -12,7 +12,7 @@ use Rattle.join.specs.Demand.{Called}
 use Rattle.join_next.specs.Next.{Stopped, Next}
 
 -- the store has as many numbers as the answer tells
-pub record Stands (first : Written) (nodes rows : List ℕ) : Type 0 where
+pub record StoreHolds (first : Written) (nodes rows : List ℕ) : Type 0 where
   pub nodes-stand : (n m : ℕ) → first ≡ Done n m → n * nodeWidth ≤ length nodes
   pub rows-stand : (n m : ℕ) → first ≡ Done n m → m * rowWidth ≤ length rows
 

@@ -1,5 +1,5 @@
 // The second of two calls of `merge_with`, on what the first left in a store, unless that was refused. `join_three` makes the first.
-ghost use Rattle.join_next.specs.Contracts.{Stands, ThenLeft, ThenRight};
+ghost use Rattle.join_next.specs.Contracts.{StoreHolds, ThenLeft, ThenRight};
 use record::Encoding;
 use record::Written;
 
@@ -14,7 +14,7 @@ pub fn then_left(
     out_nodes: &mut [u32],
     out_rows: &mut [u32],
 ) -> Written
-    requires { ⌜ Stands first (now «ab_nodes») (now «ab_rows») ⌝ }
+    requires { ⌜ StoreHolds first (now «ab_nodes») (now «ab_rows») ⌝ }
     ensures { λ r. ⌜ ThenLeft growing first (now («ab_nodes» .entry)) (now («ab_rows» .entry)) (now («c_nodes» .entry))
         (now («c_rows» .entry)) (now («out_nodes» .entry)) (now («out_rows» .entry)) (now («out_nodes» .exit))
         (now («out_rows» .exit)) r ⌝ }
@@ -48,7 +48,7 @@ pub fn then_right(
     out_nodes: &mut [u32],
     out_rows: &mut [u32],
 ) -> Written
-    requires { ⌜ Stands first (now «bc_nodes») (now «bc_rows») ⌝ }
+    requires { ⌜ StoreHolds first (now «bc_nodes») (now «bc_rows») ⌝ }
     ensures { λ r. ⌜ ThenRight growing first (now («a_nodes» .entry)) (now («a_rows» .entry)) (now («bc_nodes» .entry))
         (now («bc_rows» .entry)) (now («out_nodes» .entry)) (now («out_rows» .entry)) (now («out_nodes» .exit))
         (now («out_rows» .exit)) r ⌝ }

@@ -16,7 +16,7 @@ use Rattle.record.proofs.Walk.{numbers-append}
 use Rattle.join_trees.specs.Join.{moved, lastEnd, base}
 use Rattle.join_view.specs.declared.View.{View}
 use Rattle.join_view.specs.declared.View.the-variants.{Plain, Window, Piece}
-use Rattle.join_view.specs.View.{typed, rowsSeen}
+use Rattle.join_view.specs.View.{typedRow, rowsSeen}
 use Rattle.join_shift.specs.Contracts.{Shifts}
 use Rattle.join_rows.specs.Contracts.{AskMoved, MakesRows, movedRows, AskOwn, WritesOwn}
 use Rattle.join_view.proofs.Seen.{length-rows-seen}
@@ -81,14 +81,14 @@ pub makes-none : {rows : List ℕ} {j count : ℕ} (v : View) → ((R : List Row
 makes-none {rows} {j} v e = record { made = λ R h n. rows-there h ∙ ap (λ (rs : List Row). sets rows j (flatMap rowNumbers rs)) (sym (e R)) }
 
 -- and one that sets a type
-pub makes-typed : {rows rows′ : List ℕ} {j count k t : ℕ} (v : View) → v ≡ Piece k t → MakesRows (map (typed t)) rows j count rows j rows′ → MakesRows (rowsSeen v) rows j count rows j rows′
+pub makes-typed : {rows rows′ : List ℕ} {j count k t : ℕ} (v : View) → v ≡ Piece k t → MakesRows (map (typedRow t)) rows j count rows j rows′ → MakesRows (rowsSeen v) rows j count rows j rows′
 makes-typed {rows} {rows′} {j} {count} v e p = subst (λ (v : View). MakesRows (rowsSeen v) rows j count rows j rows′) (sym e) p
 
 -- it does not matter which is first
 seen-moved : (v : View) (n : ℕ) (R : List Row) → rowsSeen v (map (moved n) R) ≡ movedRows v n R
 seen-moved Plain n R = refl
 seen-moved (Window k) n R = refl
-seen-moved (Piece k t) n R = map-map (typed t) (moved n) R ∙ sym (map-map (moved n) (typed t) R)
+seen-moved (Piece k t) n R = map-map (typedRow t) (moved n) R ∙ sym (map-map (moved n) (typedRow t) R)
 
 pub makes-moved : {rows out out₁ out₂ : List ℕ} {j count at : ℕ} (v : View) (n : ℕ) → at + count * rowWidth ≤ length out
     → Shifts rows j count n out at out₁ → MakesRows (rowsSeen v) out₁ at count out₁ at out₂ → MakesRows (movedRows v n) rows j count out at out₂

@@ -11,7 +11,7 @@ use Rattle.record.specs.Tree.{Row}
 use Rattle.record.specs.Flat.{rowWidth, rowNumbers}
 use Rattle.record.specs.Standing.{RowsAt}
 use Rattle.record.proofs.Flat.{row-stored}
-use Rattle.join_view.specs.View.{typed}
+use Rattle.join_view.specs.View.{typedRow}
 use Rattle.lists.specs.Stretch.{Stretch}
 use Rattle.join_rows.specs.Contracts.{MakesRows}
 use Rattle.join_view.proofs.InPlace.{next-stands, next-written}
@@ -24,10 +24,10 @@ blank = record { id = 0; type-id = 0; pool = 0; text-start = 0; text-length = 0;
 -- ---- One row
 
 -- its type written
-pub typed-there : (l : List ℕ) (i t : ℕ) (r : Row) → Stretch l i (rowNumbers r) → set l (i + 1) t ≡ sets l i (rowNumbers (typed t r))
+pub typed-there : (l : List ℕ) (i t : ℕ) (r : Row) → Stretch l i (rowNumbers r) → set l (i + 1) t ≡ sets l i (rowNumbers (typedRow t r))
 unfolding rowNumbers
 typed-there l i t r h =
-    set-inside l i 1 t ∙ ap (λ (m : List ℕ). take i l ++ set m 1 t) (h .is) ∙ sym (stands-over h (rowNumbers (typed t r)) refl)
+    set-inside l i 1 t ∙ ap (λ (m : List ℕ). take i l ++ set m 1 t) (h .is) ∙ sym (stands-over h (rowNumbers (typedRow t r)) refl)
 
 -- ---- Rows that stand
 

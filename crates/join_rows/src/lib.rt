@@ -5,7 +5,7 @@ ghost use Prim.Native.Nat.{_+_, _*_, _≤_};
 ghost use lib.ListN.{length};
 ghost use Rattle.join_rows.specs.Contracts.{AskMoved, MakesRows, movedRows, AskOwn, WritesOwn};
 ghost use Rattle.join_trees.specs.Join.{base};
-ghost use Rattle.join_view.specs.View.{typed, rowsSeen};
+ghost use Rattle.join_view.specs.View.{typedRow, rowsSeen};
 ghost use Rattle.record.specs.Flat.{rowWidth};
 ghost use Rattle.record.specs.Standing.{RowsAt};
 ghost use Rattle.record.specs.Tree.{Row};
@@ -84,7 +84,7 @@ pub fn view_types(rows: &mut [u32], at: usize, count: usize, view: View)
 // One type on `count` rows, from `at` on.
 pub fn set_types(rows: &mut [u32], at: usize, count: usize, type_id: u32)
     requires { ⌜ at + count * rowWidth ≤ length (now rows) ⌝ }
-    ensures { λ _. ⌜ MakesRows (map (typed «type_id»)) (now (rows .entry)) at count (now (rows .entry)) at
+    ensures { λ _. ⌜ MakesRows (map (typedRow «type_id»)) (now (rows .entry)) at count (now (rows .entry)) at
         (now (rows .exit)) ⌝ }
 {
     let mut place = at;

@@ -17,7 +17,7 @@ use Rattle.lists.proofs.FlatMap.{map-append}
 use Rattle.lists.proofs.Sets.{sets-append}
 use Rattle.join_trees.specs.Join.{moved}
 use Rattle.join_trees.specs.Offsets.{mostOffset, MovedWithin}
-use Rattle.join_add.specs.Contracts.{AskAddAt, added}
+use Rattle.join_add.specs.Contracts.{AskAddAt, sums}
 use Rattle.join_add.proofs.Added.{getD-added}
 use Rattle.join_shift.specs.Contracts.{shifts}
 use Rattle.join_shift.proofs.Shifts.{Small, shifts-long, added-rows, moved-small}
@@ -79,7 +79,7 @@ module _ {n j at i : ℕ} {rows out now : List ℕ} {R : List Row} (h : RowsAt r
     numbers-long : length (flatMap rowNumbers block) ≡ t * rowWidth
     numbers-long = length-numbers row-stored block ∙ ap (_* rowWidth) block-long
 
-    block-added : added (flatMap rowNumbers block) (shifts n 4) ≡ flatMap rowNumbers (map (moved n) block)
+    block-added : sums (flatMap rowNumbers block) (shifts n 4) ≡ flatMap rowNumbers (map (moved n) block)
     block-added = added-rows n 4 block (omega (arith, block-long))
 
     moved-long : length (flatMap rowNumbers (map (moved n) block)) ≡ t * rowWidth
@@ -110,7 +110,7 @@ module _ {n j at i : ℕ} {rows out now : List ℕ} {R : List Row} (h : RowsAt r
           subst (λ (l : List ℕ). AskAddAt rows (j + i) m l now (at + i)) (sym b)
           (record { inside = inside; fits = fits; enough = omega (arith, e, shifts-long n 4); sums = λ k l. block-sums w small k (omega (arith, e)) })
 
-      pub part-on : {now′ : List ℕ} → now′ ≡ sets now (at + i) (added (take m (drop (j + i) rows)) more) → Part n R out at now′ (i + m)
+      pub part-on : {now′ : List ℕ} → now′ ≡ sets now (at + i) (sums (take m (drop (j + i) rows)) more) → Part n R out at now′ (i + m)
       part-on {now′} w =
           let X = flatMap rowNumbers (map (moved n) (p .A)) in
           let Y = flatMap rowNumbers (map (moved n) block) in
@@ -122,7 +122,7 @@ module _ {n j at i : ℕ} {rows out now : List ℕ} {R : List Row} (h : RowsAt r
             whole = append-assoc (p .A) block (drop t (p .B)) ∙ ap (p .A ++_) (take-append-drop t (p .B)) ∙ p .whole;
             passed = omega (arith, length-append (p .A) block, block-long, p .passed);
             written = w
-                ∙ ap (sets now (at + i)) (ap₂ added own b ∙ block-added)
+                ∙ ap (sets now (at + i)) (ap₂ sums own b ∙ block-added)
                 ∙ ap₂ (λ (l : List ℕ) (k : ℕ). sets l (at + k) Y) (p .written) (sym long)
                 ∙ sets-append out at X Y
                 ∙ ap (sets out at) (sym (ap (flatMap rowNumbers) (map-append (moved n) (p .A) block) ∙ numbers-append (map (moved n) (p .A)) (map (moved n) block)));

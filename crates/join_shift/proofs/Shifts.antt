@@ -14,14 +14,14 @@ use Rattle.record.proofs.Flat.{length-numbers, row-stored}
 use Rattle.join_trees.specs.Join.{moved}
 use Rattle.join_trees.specs.Offsets.{mostOffset, MovedWithin}
 use Rattle.join_trees.proofs.Units.{moved-zeros}
-use Rattle.join_add.specs.Contracts.{added}
+use Rattle.join_add.specs.Contracts.{sums}
 use Rattle.join_shift.specs.Contracts.{Shifts, shift, shifts}
 
 pub shifts-long : (n t : ℕ) → length (shifts n t) ≡ t * rowWidth
 shifts-long n t = length-numbers row-stored (replicate t (shift n)) ∙ ap (_* rowWidth) (length-replicate t (shift n))
 
-pub added-rows : (n t : ℕ) (B : List Row) → length B ≤ t → added (flatMap rowNumbers B) (shifts n t) ≡ flatMap rowNumbers (map (moved n) B)
-unfolding added flatMap rowNumbers
+pub added-rows : (n t : ℕ) (B : List Row) → length B ≤ t → sums (flatMap rowNumbers B) (shifts n t) ≡ flatMap rowNumbers (map (moved n) B)
+unfolding sums flatMap rowNumbers
 added-rows n t [] h = refl
 added-rows n zero (r ∷ B) h = absurd (omega arith)
 added-rows n (suc t) (r ∷ B) h = simp add-zero (ap (rowNumbers (moved n r) ++_) (added-rows n t B (omega arith)))

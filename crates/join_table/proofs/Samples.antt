@@ -3,7 +3,7 @@
 use mathlib.Core.Path.{_≡_, refl}
 use mathlib.Core.List.{List, [], _∷_}
 use Prim.Native.Nat.{ℕ, _+_}
-use Rattle.join_table.specs.Table.{at, below, joined}
+use Rattle.join_table.specs.Table.{at, sumBelow, joinedLevel}
 
 nodes : List ℕ
 nodes = 1 ∷ 8 ∷ []
@@ -11,10 +11,10 @@ nodes = 1 ∷ 8 ∷ []
 rows : List ℕ
 rows = 128 ∷ 1024 ∷ []
 
-eight-windows : below 3 (λ d. joined d (at nodes) (at nodes)) ≡ 209
-unfolding nodes below joined
+eight-windows : sumBelow 3 (λ d. joinedLevel d (at nodes) (at nodes)) ≡ 209
+unfolding nodes sumBelow joinedLevel
 eight-windows = refl
 
-eight-windows-rows : below 3 (λ d. joined d (at rows) (at nodes) + joined d (at nodes) (at rows)) ≡ 53504
-unfolding nodes rows below joined
+eight-windows-rows : sumBelow 3 (λ d. joinedLevel d (at rows) (at nodes) + joinedLevel d (at nodes) (at rows)) ≡ 53504
+unfolding nodes rows sumBelow joinedLevel
 eight-windows-rows = refl

@@ -14,18 +14,18 @@ abbrev pub at : List ℕ → ℕ → ℕ
 at l i = getD l i 0
 
 -- The sum of the first n values of f.
-unfoldable pub below : ℕ → (ℕ → ℕ) → ℕ
-below zero f = 0
-below (suc n) f = below n f + f n
+unfoldable pub sumBelow : ℕ → (ℕ → ℕ) → ℕ
+sumBelow zero f = 0
+sumBelow (suc n) f = sumBelow n f + f n
 
 abbrev pub later : (ℕ → ℕ) → ℕ → ℕ
 later u i = u (suc i)
 
 -- What level d of a join has, from what the levels of the two have, as the windows of a join are made: "s with P", "s
 -- with each p", "S with each p".
-unfoldable pub joined : ℕ → (ℕ → ℕ) → (ℕ → ℕ) → ℕ
-joined zero u v = u 0 * v 0
-joined (suc d) u v = joined d (later u) v + joined d (later u) (later v) + joined d u (later v)
+unfoldable pub joinedLevel : ℕ → (ℕ → ℕ) → (ℕ → ℕ) → ℕ
+joinedLevel zero u v = u 0 * v 0
+joinedLevel (suc d) u v = joinedLevel d (later u) v + joinedLevel d (later u) (later v) + joinedLevel d u (later v)
 
 -- The table: at first, in row i and column j, what level i of S and level j of P give together;
 unfoldable pub paired : (ℕ → ℕ) → (ℕ → ℕ) → (ℕ → ℕ) → (ℕ → ℕ) → ℕ → ℕ

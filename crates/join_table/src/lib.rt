@@ -3,7 +3,7 @@ ghost use mathlib.Core.Path.{_≡_};
 ghost use Prim.Native.Nat.{ℕ, suc, _+_, _*_, _^_, _≤_};
 ghost use lib.ListN.{length};
 ghost use Rattle.record.specs.WellFormed.{mostLevels};
-ghost use Rattle.join_table.specs.Table.{levelCount, at, joined, paired, spread};
+ghost use Rattle.join_table.specs.Table.{levelCount, at, joinedLevel, paired, spread};
 ghost use Rattle.join_table.specs.Contracts.{Has, Small4};
 use record::Encoding;
 
@@ -25,7 +25,7 @@ pub fn levels_of(
     m: usize,
 ) -> [usize; LEVELS]
     requires { ⌜ (m ≤ mostLevels) × Small4 (at a) (at b) (at c) (at e) ⌝ }
-    ensures { λ r. ⌜ Has r m (λ d. joined d (at a) (at b) + joined d (at c) (at e)) ⌝ }
+    ensures { λ r. ⌜ Has r m (λ d. joinedLevel d (at a) (at b) + joinedLevel d (at c) (at e)) ⌝ }
 {
     descend(fill(a, b, c, e, DIAGONAL * m), m)
 }

@@ -10,7 +10,7 @@ use Rattle.record.specs.declared.Written.{Written}
 use Rattle.record.specs.declared.Written.the-variants.{Done}
 use Rattle.join.specs.Demand.{Called, Call}
 use Rattle.join.proofs.Demand.{call-left}
-use Rattle.join_next.specs.Contracts.{Stands}
+use Rattle.join_next.specs.Contracts.{StoreHolds}
 
 -- a call that answered so
 abbrev pub call : {g : Bool} {xs rs ys ss nodes rows nodes′ rows′ : List ℕ} {w : Written} → Called g xs rs ys ss nodes rows nodes′ rows′ w → (n m : ℕ) → w ≡ Done n m → Call g xs rs ys ss
@@ -20,7 +20,7 @@ call {g} {xs} {rs} {ys} {ss} {nodes} {rows} {nodes′} {rows′} c n m e =
 taken : (k : ℕ) (l : List ℕ) → length (take k l) ≡ k → k ≤ length l
 taken k l e = let h = length-take k l in omega (arith, h, e)
 
-pub stands : {g : Bool} {xs rs ys ss nodes rows nodes′ rows′ : List ℕ} {w : Written} → Called g xs rs ys ss nodes rows nodes′ rows′ w → Stands w nodes′ rows′
+pub stands : {g : Bool} {xs rs ys ss nodes rows nodes′ rows′ : List ℕ} {w : Written} → Called g xs rs ys ss nodes rows nodes′ rows′ w → StoreHolds w nodes′ rows′
 stands {nodes′ = nodes′} {rows′ = rows′} c = record {
   nodes-stand = λ n m e. let l = call-left (call c n m e) in taken _ nodes′ (ap length (l .nodes-are) ∙ l .nodes-long);
   rows-stand = λ n m e. let l = call-left (call c n m e) in taken _ rows′ (ap length (l .rows-are) ∙ l .rows-long);

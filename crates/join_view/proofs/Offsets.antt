@@ -10,7 +10,7 @@ use Rattle.join_trees.specs.Join.{moved, base, joinRows, withEach, eachWith, jo
 use Rattle.join_trees.specs.Offsets.{rowFits, offsetsFit, joinFits}
 use Rattle.join_view.specs.declared.View.{View}
 use Rattle.join_view.specs.declared.View.the-variants.{Plain, Window, Piece}
-use Rattle.join_view.specs.View.{below, typed, rowsSeen, allSeen, seen}
+use Rattle.join_view.specs.View.{below, typedRow, rowsSeen, allSeen, seen}
 
 fits-append : (s t : List Encoding) → offsetsFit (forest (s ++ t)) ≡ (offsetsFit (forest s) && offsetsFit (forest t))
 unfolding offsetsFit
@@ -27,7 +27,7 @@ fits-both s s′ t t′ e f = fits-append s t ∙ ap₂ _&&_ e f ∙ sym (fits-a
 
 -- ---- Rows
 
-typed-fits : (t n : ℕ) (r rp : List Row) → allOk rowFits (r ++ map (moved n) (map (typed t) rp)) ≡ allOk rowFits (r ++ map (moved n) rp)
+typed-fits : (t n : ℕ) (r rp : List Row) → allOk rowFits (r ++ map (moved n) (map (typedRow t) rp)) ≡ allOk rowFits (r ++ map (moved n) rp)
 typed-fits t n [] [] = refl
 typed-fits t n [] (p ∷ rp) = ap (rowFits (moved n p) &&_) (typed-fits t n [] rp)
 typed-fits t n (s ∷ r) rp = ap (rowFits s &&_) (typed-fits t n r rp)

@@ -13,7 +13,7 @@ use Rattle.record_write.specs.Writing.{presentRange}
 use Rattle.record_write.proofs.RangeSet.{node-fine-set}
 use Rattle.join_view.specs.declared.View.{View}
 use Rattle.join_view.specs.declared.View.the-variants.{Plain, Window, Piece}
-use Rattle.join_view.specs.View.{below, typed, rowsSeen, rangesSeen, allSeen, seen}
+use Rattle.join_view.specs.View.{below, typedRow, rowsSeen, rangesSeen, allSeen, seen}
 
 -- ---- As it stands
 
@@ -42,7 +42,7 @@ seen-windows v E = listed-seen (below v) (E .below)
 pub length-rows-seen : (v : View) (rs : List Row) → length (rowsSeen v rs) ≡ length rs
 length-rows-seen Plain rs = refl
 length-rows-seen (Window k) rs = refl
-length-rows-seen (Piece k t) rs = length-map rs (typed t)
+length-rows-seen (Piece k t) rs = length-map rs (typedRow t)
 
 pub length-ranges-seen : (v : View) (n : ℕ) (q : List Range) → length (rangesSeen v n q) ≡ length q
 length-ranges-seen Plain n q = refl
@@ -70,7 +70,7 @@ rows-fine : (v : View) {r : List Row} {q : List Range} → NodeFine r q → Node
 rows-fine Plain n = n
 rows-fine (Window k) n = n
 rows-fine (Piece k t) {r} n =
-    record { places = n .places; ranges-fine = rw length-map (n .ranges-fine); rows-fine = all-map RowFine RowFine (typed t) r (λ x h. h) (n .rows-fine) }
+    record { places = n .places; ranges-fine = rw length-map (n .ranges-fine); rows-fine = all-map RowFine RowFine (typedRow t) r (λ x h. h) (n .rows-fine) }
 
 ranges-fine : (v : View) {r : List Row} {q : List Range} → NodeFine r q → NodeFine r (rangesSeen v (length r) q)
 ranges-fine Plain n = n

@@ -21,13 +21,13 @@ below (Window k) = Plain
 below (Piece k t) = Window k
 
 -- "each piece sets type and sequence on the top encoding only"
-abbrev pub typed : ℕ → Row → Row
-typed t r = record { id = r .id; type-id = t; pool = r .pool; text-start = r .text-start; text-length = r .text-length; word-mark = r .word-mark; word = r .word; offset-start = r .offset-start; offset-end = r .offset-end; special = r .special; attention = r .attention }
+abbrev pub typedRow : ℕ → Row → Row
+typedRow t r = record { id = r .id; type-id = t; pool = r .pool; text-start = r .text-start; text-length = r .text-length; word-mark = r .word-mark; word = r .word; offset-start = r .offset-start; offset-end = r .offset-end; special = r .special; attention = r .attention }
 
 abbrev pub rowsSeen : View → List Row → List Row
 rowsSeen Plain rs = rs
 rowsSeen (Window k) rs = rs
-rowsSeen (Piece k t) rs = map (typed t) rs
+rowsSeen (Piece k t) rs = map (typedRow t) rs
 
 -- The ranges of a node of n rows: a sequence that is set has all of them.
 abbrev pub rangesSeen : View → ℕ → List Range → List Range

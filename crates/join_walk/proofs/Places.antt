@@ -14,7 +14,7 @@ use Rattle.record.proofs.Here.{here-size, here-below, here-nodes-fit, here-rows
 use Rattle.record_extent.specs.Contracts.{Stands}
 use Rattle.record_extent.proofs.Stands.{here-stands}
 use Rattle.record.specs.declared.Spot.{Spot}
-use Rattle.join_walk.specs.Contracts.{mostPlace, AskDown, firstWindow, AskNext, Follows}
+use Rattle.join_walk.specs.Contracts.{mostPlace, AskDown, firstWindow, AskWalk, Follows}
 
 module _ {nodes rows : List ℕ} {s : Spot} {E : Encoding} (h : Here nodes rows (s .node) (s .row) (forest (E ∷ []))) where
   pub one-fits : s .node + nodeWidth ≤ length nodes
@@ -33,7 +33,7 @@ module _ {nodes rows : List ℕ} {s : Spot} {E : Encoding} (h : Here nodes rows 
   stands : Stands nodes (s .node) 1 (forest (E ∷ []))
   stands = here-stands h
 
-  pub ask-next : length rows ≤ mostPlace → AskNext nodes s
+  pub ask-next : length rows ≤ mostPlace → AskWalk nodes s
   ask-next l = record { E = E; stands = stands; nodes-fit = here-nodes-fit h; rows-fit = omega (arith, here-rows-fit h) }
 
   pub follows : {r : Spot} → Follows nodes s r → r ≡ spot (s .node + nodesIn (forest (E ∷ [])) * nodeWidth) (s .row + rowsIn (forest (E ∷ [])) * rowWidth)

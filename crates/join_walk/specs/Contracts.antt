@@ -24,7 +24,7 @@ abbrev pub firstWindow : List ℕ → Spot → Spot
 firstWindow nodes s = spot (s .node + nodeWidth) (s .row + getD nodes (s .node) 0 * rowWidth)
 
 -- An encoding stands at s.
-pub record AskNext (nodes : List ℕ) (s : Spot) : Type 0 where
+pub record AskWalk (nodes : List ℕ) (s : Spot) : Type 0 where
   pub E : Encoding
   pub stands : Stands nodes (s .node) 1 (forest (E ∷ []))
   pub nodes-fit : s .node + nodesIn (forest (E ∷ [])) * nodeWidth ≤ length nodes

@@ -2,7 +2,7 @@
 ghost use mathlib.Core.Path.{_≡_};
 ghost use Prim.Native.Nat.{_+_, _≤_};
 ghost use lib.ListN.{length, getD};
-ghost use Rattle.join_walk.specs.Contracts.{AskDown, AskNext, firstWindow, Follows};
+ghost use Rattle.join_walk.specs.Contracts.{AskDown, AskWalk, firstWindow, Follows};
 ghost use Rattle.record.specs.Flat.{nodeWidth};
 use record::Encoding;
 use record::Spot;
@@ -30,7 +30,7 @@ pub fn down(nodes: &[u32], s: Spot) -> Spot
 
 // The place after the encoding at s, its windows included.
 pub fn next(nodes: &[u32], s: Spot) -> Spot
-    requires { ⌜ AskNext (now nodes) s ⌝ }
+    requires { ⌜ AskWalk (now nodes) s ⌝ }
     ensures { λ r. ⌜ Follows (now (nodes .entry)) s r ⌝ }
 {
     let size = record_extent::measure(nodes, s.node, 1);

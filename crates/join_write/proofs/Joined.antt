@@ -28,7 +28,7 @@ use Rattle.join_node.specs.Contracts.{AskNode, NodeWritten, WritesNode}
 use Rattle.join_view.proofs.Seen.{length-rows-seen, tops-seen, all-fine}
 use Rattle.join_view.proofs.Node.{node-then-windows, rows-then-windows, node-long, own-long}
 use Rattle.join_write.specs.Joins.{joined, windowed}
-use Rattle.join_write.specs.Contracts.{Ask, Wrote, Writes}
+use Rattle.join_write.specs.Contracts.{AskJoining, Wrote, WritesJoining}
 use Rattle.join_write.proofs.Sides.{Sound}
 use Rattle.record.proofs.Counts.{tops-few}
 use Rattle.join_write.proofs.Going.{Room}
@@ -77,7 +77,7 @@ each-fine g S (node r q w x) s (n, tw, tx) =
 -- ---- From what is asked to the room for it, and back
 
 module _ (f : View → Bool → Encoding → Encoding → List Encoding) {nodes rows : List ℕ} {s : Spot} {nodes′ rows′ : List ℕ} {p : Spot} {v : View} {g : Bool} {out out′ : List ℕ} {at : Spot} where
-  pub room-asked : (a : Ask f nodes rows s nodes′ rows′ p v g out out′ at) → Fine (forest (f v g (a .S) (a .P))) → Room (f v g (a .S) (a .P)) out out′ at
+  pub room-asked : (a : AskJoining f nodes rows s nodes′ rows′ p v g out out′ at) → Fine (forest (f v g (a .S) (a .P))) → Room (f v g (a .S) (a .P)) out out′ at
   room-asked a t =
       record {
         sound = record { fine = t; within = tells-offsets (forest (f v g (a .S) (a .P))) .so (a .within); limits = a .limits };
@@ -85,7 +85,7 @@ module _ (f : View → Bool → Encoding → Encoding → List Encoding) {nodes 
         rows-fit = a .rows-fit;
       }
 
-  pub ask-in : (S P : Encoding) → Here nodes rows (s .node) (s .row) (forest (S ∷ [])) → Here nodes′ rows′ (p .node) (p .row) (forest (P ∷ [])) → ViewFine v → Room (f v g S P) out out′ at → Ask f nodes rows s nodes′ rows′ p v g out out′ at
+  pub ask-in : (S P : Encoding) → Here nodes rows (s .node) (s .row) (forest (S ∷ [])) → Here nodes′ rows′ (p .node) (p .row) (forest (P ∷ [])) → ViewFine v → Room (f v g S P) out out′ at → AskJoining f nodes rows s nodes′ rows′ p v g out out′ at
   ask-in S P hs hp l r =
       record {
         S = S;
@@ -109,7 +109,7 @@ moved-unseen (Piece k t) n [] h = tt
 moved-unseen (Piece k t) n (p ∷ ps) (h, hs) = (h, moved-unseen (Piece k t) n ps hs)
 
 module _ {nodes rows : List ℕ} {s : Spot} {nodes′ rows′ : List ℕ} {p : Spot} {v : View} {g : Bool} {out out′ : List ℕ} {at : Spot} where
-  pub ask-node : Ask joined nodes rows s nodes′ rows′ p v g out out′ at → AskNode nodes rows s nodes′ rows′ p v g out out′ at
+  pub ask-node : AskJoining joined nodes rows s nodes′ rows′ p v g out out′ at → AskNode nodes rows s nodes′ rows′ p v g out out′ at
   ask-node a =
       let S = a .S in
       let P = a .P in
@@ -162,10 +162,10 @@ module _ {v : View} {g : Bool} {S P : Encoding} {out out′ : List ℕ} {at r : 
       }
 
 module _ {nodes rows : List ℕ} {s : Spot} {nodes′ rows′ : List ℕ} {p : Spot} {v : View} {g : Bool} {out out′ : List ℕ} {at r : Spot} {out₁ out₁′ : List ℕ} (n : WritesNode nodes rows s nodes′ rows′ p v g out out′ at r out₁ out₁′) where
-  pub ask-windows : Ask joined nodes rows s nodes′ rows′ p v g out out′ at → Ask windowed nodes rows s nodes′ rows′ p v g out₁ out₁′ r
+  pub ask-windows : AskJoining joined nodes rows s nodes′ rows′ p v g out out′ at → AskJoining windowed nodes rows s nodes′ rows′ p v g out₁ out₁′ r
   ask-windows a =
       ask-in windowed (a .S) (a .P) (a .here-s) (a .here-p) (a .view-fine)
       (room-windows (n (a .S) (a .P) (a .here-s) (a .here-p)) (room-asked joined a (joined-fine v g (a .S) (a .P) (a .here-s .well .fine) (a .here-p .well .fine))))
 
-  pub writes-join : {b : Spot} {out₂ out₂′ : List ℕ} → Writes windowed nodes rows s nodes′ rows′ p v g out₁ out₁′ r b out₂ out₂′ → Writes joined nodes rows s nodes′ rows′ p v g out out′ at b out₂ out₂′
+  pub writes-join : {b : Spot} {out₂ out₂′ : List ℕ} → WritesJoining windowed nodes rows s nodes′ rows′ p v g out₁ out₁′ r b out₂ out₂′ → WritesJoining joined nodes rows s nodes′ rows′ p v g out out′ at b out₂ out₂′
   writes-join w S P hs hp = join-wrote (n S P hs hp) (hs .well .fine) (hp .well .fine) (w S P hs hp)

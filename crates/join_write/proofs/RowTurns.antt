@@ -16,7 +16,7 @@ use Rattle.record.specs.declared.Spot.{Spot}
 use Rattle.join_view.specs.View.{below, allSeen, ViewFine}
 use Rattle.join_view.proofs.Seen.{all-fine}
 use Rattle.join_write.specs.Joins.{joined, rowed}
-use Rattle.join_write.specs.Contracts.{Ask, Wrote, Writes}
+use Rattle.join_write.specs.Contracts.{AskJoining, Wrote, WritesJoining}
 use Rattle.join_walk.specs.Contracts.{firstWindow, Follows}
 use Rattle.join_write.proofs.Going.{Room, room-first, going-room, going-on, going-end}
 use Rattle.join_write.proofs.Joined.{each-fine, room-asked, ask-in}
@@ -49,7 +49,7 @@ pub record RowAsk (nodes rows : List ℕ) (s : Spot) (nodes′ rows′ : List �
   pub view-fine : ViewFine b
   pub room : Room (withSeen b g S F) out out′ at
 
-pub row-ask : {nodes rows : List ℕ} {s : Spot} {nodes′ rows′ : List ℕ} {p : Spot} {v : View} {g : Bool} {out out′ : List ℕ} {at first : Spot} {count : ℕ} {b : View} → Ask rowed nodes rows s nodes′ rows′ p v g out out′ at
+pub row-ask : {nodes rows : List ℕ} {s : Spot} {nodes′ rows′ : List ℕ} {p : Spot} {v : View} {g : Bool} {out out′ : List ℕ} {at first : Spot} {count : ℕ} {b : View} → AskJoining rowed nodes rows s nodes′ rows′ p v g out out′ at
     → first ≡ firstWindow nodes′ p → count ≡ getD nodes′ (p .node + 1) 0 → b ≡ below v → RowAsk nodes rows s nodes′ rows′ first count b g out out′ at
 row-ask {v = v} {g = g} {out = out} {out′ = out′} {at = at} a e n u =
     record {
@@ -85,13 +85,13 @@ module _ {nodes rows : List ℕ} {s : Spot} {nodes′ rows′ : List ℕ} {g : B
       row-falls p e l m = omega (arith, r .far, ap (λ (z : Spot). z .node) e, one-fits (row-turn l .here))
 
       -- one of them: what the join with it asks
-      pub row-asks : 0 < k → Ask joined nodes rows s nodes′ rows′ y b g out₁ out₁′ a
+      pub row-asks : 0 < k → AskJoining joined nodes rows s nodes′ rows′ y b g out₁ out₁′ a
       row-asks l =
           let t = row-turn l in
           ask-in joined (w .S) (t .E) (w .here-s) (t .here) (w .view-fine) (room-first (joined b g (w .S) (t .E)) (withSeen b g (w .S) (t .rest)) (going-room (t .going) (w .room)))
 
       -- it was joined, and the next one stands at y′
-      pub row-on : {c y′ : Spot} {out₂ out₂′ : List ℕ} → 0 < k → Writes joined nodes rows s nodes′ rows′ y b g out₁ out₁′ a c out₂ out₂′ → Follows nodes′ y y′ → RowGoing nodes rows s nodes′ rows′ g out out′ first count at b out₂ out₂′ y′ (k - 1) c
+      pub row-on : {c y′ : Spot} {out₂ out₂′ : List ℕ} → 0 < k → WritesJoining joined nodes rows s nodes′ rows′ y b g out₁ out₁′ a c out₂ out₂′ → Follows nodes′ y y′ → RowGoing nodes rows s nodes′ rows′ g out out′ first count at b out₂ out₂′ y′ (k - 1) c
       row-on l wr f =
           record {
             far = omega (arith, r .far, ap (λ (z : Spot). z .node) (follows (row-turn l .here) f));
@@ -104,6 +104,6 @@ module _ {nodes rows : List ℕ} {s : Spot} {nodes′ rows′ : List ℕ} {g : B
     row-end l S F hs hf n = going-end (walk-end (r .walk S F hs hf n) l)
 
     -- the windows of P stood there, seen through the view below P's
-    pub row-all : {p : Spot} (v : View) → k ≤ 0 → first ≡ firstWindow nodes′ p → count ≡ getD nodes′ (p .node + 1) 0 → b ≡ below v → Writes rowed nodes rows s nodes′ rows′ p v g out out′ at a out₁ out₁′
+    pub row-all : {p : Spot} (v : View) → k ≤ 0 → first ≡ firstWindow nodes′ p → count ≡ getD nodes′ (p .node + 1) 0 → b ≡ below v → WritesJoining rowed nodes rows s nodes′ rows′ p v g out out′ at a out₁ out₁′
     row-all v l e n u S P hs hp =
         subst (λ (b : View). Wrote (withSeen b g S (P .below)) out out′ at a out₁ out₁′) u (row-end l S (P .below) hs (windows-there hp e) (windows-many hp n))

@@ -13,7 +13,7 @@ use Rattle.join_view.specs.declared.View.{View}
 use Rattle.record.specs.declared.Spot.{Spot}
 use Rattle.join_view.specs.View.{seen}
 use Rattle.join_write.specs.Joins.{joined, windowed, rowed}
-use Rattle.join_write.specs.Contracts.{Ask, Writes}
+use Rattle.join_write.specs.Contracts.{AskJoining, WritesJoining}
 use Rattle.join_walk.specs.Contracts.{firstWindow, Follows}
 use Rattle.join_write.proofs.Going.{Room, room-first, room-after, going-room, going-on, going-end}
 use Rattle.join_write.proofs.Joined.{windowed-fine, room-asked, ask-in}
@@ -46,7 +46,7 @@ module _ {nodes rows : List ℕ} {s : Spot} {nodes′ rows′ : List ℕ} {p : S
       }
 
   module _ {out₁ out₁′ : List ℕ} {x : Spot} {k : ℕ} {a : Spot} (r : WindowsGoing nodes rows s nodes′ rows′ p v g out out′ at out₁ out₁′ x k a) where
-    module _ (w : Ask windowed nodes rows s nodes′ rows′ p v g out out′ at) where
+    module _ (w : AskJoining windowed nodes rows s nodes′ rows′ p v g out out′ at) where
       windows-walk : Walk (leftOver v g (w .S) (w .P)) (windowed v g (w .S) (w .P)) nodes rows x k out out′ at a out₁ out₁′
       windows-walk = r .walk (w .S) (w .P) (w .here-s) (w .here-p)
 
@@ -68,12 +68,12 @@ module _ {nodes rows : List ℕ} {s : Spot} {nodes′ rows′ : List ℕ} {p : S
         room-left = rw left-one at (going-room (windows-turn .going) room)
 
         -- one window: what the join of it with P asks
-        pub windows-asks : Ask joined nodes rows x nodes′ rows′ p v g out₁ out₁′ a
+        pub windows-asks : AskJoining joined nodes rows x nodes′ rows′ p v g out₁ out₁′ a
         windows-asks = ask-in joined (windows-turn .E) (w .P) (windows-turn .here) (w .here-p) (w .view-fine) (room-first (joined v g (windows-turn .E) (w .P)) (rowed v g (windows-turn .E) (w .P) ++ leftOver v g (w .S) (w .P) (windows-turn .rest)) room-left)
 
-        module _ {b : Spot} {out₂ out₂′ : List ℕ} (wr : Writes joined nodes rows x nodes′ rows′ p v g out₁ out₁′ a b out₂ out₂′) where
+        module _ {b : Spot} {out₂ out₂′ : List ℕ} (wr : WritesJoining joined nodes rows x nodes′ rows′ p v g out₁ out₁′ a b out₂ out₂′) where
           -- and then with each window of P
-          pub windows-row-asks : Ask rowed nodes rows x nodes′ rows′ p v g out₂ out₂′ b
+          pub windows-row-asks : AskJoining rowed nodes rows x nodes′ rows′ p v g out₂ out₂′ b
           windows-row-asks =
               let E = windows-turn .E in
               let rest = leftOver v g (w .S) (w .P) (windows-turn .rest) in
@@ -81,7 +81,7 @@ module _ {nodes rows : List ℕ} {s : Spot} {nodes′ rows′ : List ℕ} {p : S
               (room-first (rowed v g E (w .P)) rest (room-after (joined v g E (w .P)) (rowed v g E (w .P) ++ rest) room-left (wr E (w .P) (windows-turn .here) (w .here-p))))
 
           -- the two were written, and the next window stands at x′
-          pub windows-on : {c x′ : Spot} {out₃ out₃′ : List ℕ} → Writes rowed nodes rows x nodes′ rows′ p v g out₂ out₂′ b c out₃ out₃′ → Follows nodes x x′ → WindowsGoing nodes rows s nodes′ rows′ p v g out out′ at out₃ out₃′ x′ (k - 1) c
+          pub windows-on : {c x′ : Spot} {out₃ out₃′ : List ℕ} → WritesJoining rowed nodes rows x nodes′ rows′ p v g out₂ out₂′ b c out₃ out₃′ → Follows nodes x x′ → WindowsGoing nodes rows s nodes′ rows′ p v g out out′ at out₃ out₃′ x′ (k - 1) c
           windows-on wr′ f =
               record {
                 far = omega (arith, r .far, ap (λ (z : Spot). z .node) (follows (windows-turn .here) f));
@@ -92,11 +92,11 @@ module _ {nodes rows : List ℕ} {s : Spot} {nodes′ rows′ : List ℕ} {p : S
               }
 
       -- none is left: S with each window of P
-      pub windows-last-asks : k ≤ 0 → Ask rowed nodes rows s nodes′ rows′ p v g out₁ out₁′ a
+      pub windows-last-asks : k ≤ 0 → AskJoining rowed nodes rows s nodes′ rows′ p v g out₁ out₁′ a
       unfolding flatMap
       windows-last-asks l = ask-in rowed (w .S) (w .P) (w .here-s) (w .here-p) (w .view-fine) (going-room (walk-end windows-walk l) room)
 
-    pub windows-end : {b : Spot} {out₂ out₂′ : List ℕ} → k ≤ 0 → Writes rowed nodes rows s nodes′ rows′ p v g out₁ out₁′ a b out₂ out₂′ → Writes windowed nodes rows s nodes′ rows′ p v g out out′ at b out₂ out₂′
+    pub windows-end : {b : Spot} {out₂ out₂′ : List ℕ} → k ≤ 0 → WritesJoining rowed nodes rows s nodes′ rows′ p v g out₁ out₁′ a b out₂ out₂′ → WritesJoining windowed nodes rows s nodes′ rows′ p v g out out′ at b out₂ out₂′
     unfolding flatMap
     windows-end l wr S P hs hp =
         going-end (going-on (walk-end (r .walk S P hs hp) l) (windowed-fine v g S P (hs .well .fine) (hp .well .fine)) (sym (append-nil (rowed v g S P))) (wr S P hs hp))

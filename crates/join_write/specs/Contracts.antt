@@ -16,7 +16,7 @@ use Rattle.join_view.specs.View.{ViewFine}
 use Rattle.join_write.specs.Joins.{joined}
 
 -- The two stand there, what is written stays within the limits and its offsets within 32 bits, and from `at` on there is room.
-pub record Ask (f : View → Bool → Encoding → Encoding → List Encoding) (nodes rows : List ℕ) (s : Spot) (nodes′ rows′ : List ℕ) (p : Spot) (v : View) (g : Bool) (out out′ : List ℕ) (at : Spot) : Type 0 where
+pub record AskJoining (f : View → Bool → Encoding → Encoding → List Encoding) (nodes rows : List ℕ) (s : Spot) (nodes′ rows′ : List ℕ) (p : Spot) (v : View) (g : Bool) (out out′ : List ℕ) (at : Spot) : Type 0 where
   pub S : Encoding
   pub P : Encoding
   pub here-s : Here nodes rows (s .node) (s .row) (forest (S ∷ []))
@@ -33,14 +33,14 @@ pub record Wrote (fs : List Encoding) (out out′ : List ℕ) (at : Spot) (r : S
   pub next : r ≡ spot (at .node + nodesIn (forest fs) * nodeWidth) (at .row + rowsIn (forest fs) * rowWidth)
 
 -- Whatever two stand there.
-abbrev pub Writes : (View → Bool → Encoding → Encoding → List Encoding) → List ℕ → List ℕ → Spot → List ℕ → List ℕ → Spot → View → Bool → List ℕ → List ℕ → Spot → Spot → List ℕ → List ℕ → Type 0
-Writes f nodes rows s nodes′ rows′ p v g out out′ at r out₁ out₁′ =
+abbrev pub WritesJoining : (View → Bool → Encoding → Encoding → List Encoding) → List ℕ → List ℕ → Spot → List ℕ → List ℕ → Spot → View → Bool → List ℕ → List ℕ → Spot → Spot → List ℕ → List ℕ → Type 0
+WritesJoining f nodes rows s nodes′ rows′ p v g out out′ at r out₁ out₁′ =
     (S P : Encoding) → Here nodes rows (s .node) (s .row) (forest (S ∷ [])) → Here nodes′ rows′ (p .node) (p .row) (forest (P ∷ [])) → Wrote (f v g S P) out out′ at r out₁ out₁′
 
 -- ---- The join itself
 
 abbrev pub AskJoin : List ℕ → List ℕ → Spot → List ℕ → List ℕ → Spot → View → Bool → List ℕ → List ℕ → Spot → Type 0
-AskJoin = Ask joined
+AskJoin = AskJoining joined
 
 abbrev pub WritesJoin : List ℕ → List ℕ → Spot → List ℕ → List ℕ → Spot → View → Bool → List ℕ → List ℕ → Spot → Spot → List ℕ → List ℕ → Type 0
-WritesJoin = Writes joined
+WritesJoin = WritesJoining joined

@@ -1,5 +1,5 @@
 // The join of two encodings, written: its node, then its windows, which are joins again (document 01, module 5).
-ghost use Rattle.join_write.specs.Contracts.{AskJoin, WritesJoin, Ask, Writes};
+ghost use Rattle.join_write.specs.Contracts.{AskJoin, WritesJoin, AskJoining, WritesJoining};
 ghost use Rattle.join_write.specs.Joins.{windowed, rowed};
 use join_view::View;
 use record::Spot;
@@ -66,9 +66,9 @@ fn join_windows(
     out_rows: &mut [u32],
     at: Spot,
 ) -> Spot
-    requires { ⌜ Ask windowed (now «s_nodes») (now «s_rows») s (now «p_nodes») (now «p_rows») p view growing
+    requires { ⌜ AskJoining windowed (now «s_nodes») (now «s_rows») s (now «p_nodes») (now «p_rows») p view growing
         (now «out_nodes») (now «out_rows») at ⌝ }
-    ensures { λ r. ⌜ Writes windowed (now («s_nodes» .entry)) (now («s_rows» .entry)) s (now («p_nodes» .entry))
+    ensures { λ r. ⌜ WritesJoining windowed (now («s_nodes» .entry)) (now («s_rows» .entry)) s (now («p_nodes» .entry))
         (now («p_rows» .entry)) p view growing (now («out_nodes» .entry)) (now («out_rows» .entry)) at r
         (now («out_nodes» .exit)) (now («out_rows» .exit)) ⌝ }
 {
@@ -135,9 +135,9 @@ fn join_row(
     out_rows: &mut [u32],
     at: Spot,
 ) -> Spot
-    requires { ⌜ Ask rowed (now «s_nodes») (now «s_rows») s (now «p_nodes») (now «p_rows») p view growing
+    requires { ⌜ AskJoining rowed (now «s_nodes») (now «s_rows») s (now «p_nodes») (now «p_rows») p view growing
         (now «out_nodes») (now «out_rows») at ⌝ }
-    ensures { λ r. ⌜ Writes rowed (now («s_nodes» .entry)) (now («s_rows» .entry)) s (now («p_nodes» .entry))
+    ensures { λ r. ⌜ WritesJoining rowed (now («s_nodes» .entry)) (now («s_rows» .entry)) s (now («p_nodes» .entry))
         (now («p_rows» .entry)) p view growing (now («out_nodes» .entry)) (now («out_rows» .entry)) at r
         (now («out_nodes» .exit)) (now («out_rows» .exit)) ⌝ }
 {

@@ -8,13 +8,13 @@ use lib.Dec.{leb}
 use borrow.Author.Tests.{leb-true}
 use native.Mathlib.Omega.{arith}
 use Rattle.lines.specs.declared.Number.the-variants.{Bad, Read}
-use Rattle.lines.specs.Decimal.{both, isNumber, pickNumber, numberAt, digitsOf, decimal}
+use Rattle.lines.specs.Decimal.{both, digitsFit, pickNumber, numberAt, digitsOf, decimal}
 
 both-first : (a b : Bool) → both a b ≡ true → a ≡ true
 both-first true b e = refl
 both-first false b e = e
 
-moves-by : (at count value v next : ℕ) (b : Bool) → isNumber count value ≡ b
+moves-by : (at count value v next : ℕ) (b : Bool) → digitsFit count value ≡ b
     → pickNumber b (Read value (at + count)) Bad ≡ Read v next → at < next
 moves-by at count value v next true some e =
     let place : at + count ≡ next = cc in

@@ -52,12 +52,12 @@ pickNumber true a b = a
 pickNumber false a b = b
 
 -- whether so many digits with this value are a number
-abbrev pub isNumber : ℕ → ℕ → Bool
-isNumber count value = both (leb 1 count) (both (leb count mostDigits) (leb value largestU32))
+abbrev pub digitsFit : ℕ → ℕ → Bool
+digitsFit count value = both (leb 1 count) (both (leb count mostDigits) (leb value largestU32))
 
 -- the number of so many digits with this value, at a place, and the place after it
 abbrev pub readOf : ℕ → ℕ → ℕ → Number
-readOf at count value = pickNumber (isNumber count value) (Read value (at + count)) Bad
+readOf at count value = pickNumber (digitsFit count value) (Read value (at + count)) Bad
 
 -- the number that the digits at a place are
 abbrev pub numberAt : List ℕ → ℕ → Number

@@ -17,7 +17,7 @@ use Rattle.cut_plan.specs.declared.Direction.the-variants.{Left, Right}
 use Rattle.lines.specs.Decimal.{zeroByte, nineByte, mostDigits, largestU32, isDigit, digitsOf, decimal, decimalAfter, numberAt}
 use Rattle.lines.specs.declared.Number.the-variants.{Read}
 use Rattle.listing_text.specs.Text.{digitsUpTo, numberText}
-use Rattle.listing_request.specs.Asked.{spaceByte, letterL, letterR, spaced, fieldAt, withLetter, request, within, askedOf}
+use Rattle.listing_request.specs.Asked.{spaceByte, letterL, letterR, spaced, fieldAt, withLetter, request, cutWithin, askedOf}
 use Rattle.listing_request.specs.declared.Asked.the-variants.{Cut}
 use Rattle.listing_text.proofs.Text.{lastOf, digits-one, digits-more, number-few}
 use Rattle.listing.proofs.Lines.{field, length-field}
@@ -115,8 +115,8 @@ asked-back rows max stride d a b c =
     let e₃ : Read stride (length ((f₁ ++ f₂) ++ f₃)) ≡ fieldAt line (length (f₁ ++ f₂)) = sym (ap (λ (l : List ℕ). fieldAt l (length (f₁ ++ f₂))) (sym (append-assoc f₁ f₂ (f₃ ++ tail))) ∙ field-back (f₁ ++ f₂) tail stride c) in
     let whole : line ≡ ((f₁ ++ f₂) ++ f₃) ++ tail = simp append-assoc in
     let left : drop (length ((f₁ ++ f₂) ++ f₃)) line ≡ tail = ap (drop (length ((f₁ ++ f₂) ++ f₃))) whole ∙ drop-at ((f₁ ++ f₂) ++ f₃) tail (length ((f₁ ++ f₂) ++ f₃)) refl in
-    asked-third line e₁ e₂ e₃ ∙ ap (λ (l : List ℕ). withLetter l (within rows max stride)) left ∙ letter d ∙ rw (le-leb rows mostRows a)
+    asked-third line e₁ e₂ e₃ ∙ ap (λ (l : List ℕ). withLetter l (cutWithin rows max stride)) left ∙ letter d ∙ rw (le-leb rows mostRows a)
   where
-    letter : (d : Direction) → withLetter (letterOf d ∷ []) (within rows max stride) ≡ within rows max stride d
+    letter : (d : Direction) → withLetter (letterOf d ∷ []) (cutWithin rows max stride) ≡ cutWithin rows max stride d
     letter Left = refl
     letter Right = refl

@@ -13,8 +13,8 @@ use Rattle.cut_plan.proofs.Decides.{Says, decided}
 use Rattle.cut_plan.proofs.Windows.{windows-count}
 use Rattle.listing_text.specs.Text.{bytes, numberText}
 use Rattle.listing.specs.Answer.{windowsBy, windowsListed, countLine, firstBy, firstLine}
-use Rattle.listing.specs.Contracts.{longest, Ready}
-use Rattle.listing_text.specs.Contracts.{Wrote}
+use Rattle.listing.specs.Contracts.{longestLine, ReadyOutput}
+use Rattle.listing_text.specs.Contracts.{WroteText}
 use Rattle.listing_request.specs.declared.Request.{Request}
 use Rattle.listing_request.specs.declared.Asked.{Asked}
 use Rattle.listing_request.specs.declared.Asked.the-variants.{BadLine, Cut}
@@ -53,17 +53,17 @@ former-other rows (suc zero) h = absurd (h refl)
 former-other rows (suc (suc i)) h = refl
 
 -- the first line has room where a line has
-pub first-few : (a : Asked) → length (firstLine a) ≤ longest
+pub first-few : (a : Asked) → length (firstLine a) ≤ longestLine
 unfolding firstLine countLine
 first-few BadLine = omega arith
 first-few (Cut q) = go (decisionOf (q .rows) (q .max) (q .stride)) (length (windowsListed q))
   where
-    go : (k : Decision) (n : ℕ) → length (firstBy k n) ≤ longest
+    go : (k : Decision) (n : ℕ) → length (firstBy k n) ≤ longestLine
     go Whole n = omega arith
     go Emptied n = omega (arith, length-append (numberText n) (bytes "\n"), number-few n)
     go StrideRefused n = omega arith
     go (Windows k) n = omega (arith, length-append (numberText n) (bytes "\n"), number-few n)
 
 -- with the first line behind what waits, the output is as ready as before
-pub first-ready : (a : Asked) {out out′ : List ℕ} {waiting at next : ℕ} → Ready out waiting → at + longest ≤ length out → Wrote (firstLine a) out at next out′ → Ready out′ next
+pub first-ready : (a : Asked) {out out′ : List ℕ} {waiting at next : ℕ} → ReadyOutput out waiting → at + longestLine ≤ length out → WroteText (firstLine a) out at next out′ → ReadyOutput out′ next
 first-ready a h r w = record { long = omega (arith, h .long, wrote-long w); inside = omega (arith, w .ends, wrote-long w, first-few a) }

@@ -13,8 +13,8 @@ use Rattle.lists.proofs.Numbers.{either}
 use Rattle.record.specs.declared.Bounds.{Bounds}
 use Rattle.listing_text.specs.Text.{bytes, numberText}
 use Rattle.listing.specs.Answer.{countLine, windowLine, windowLines, windowsListed}
-use Rattle.listing.specs.Contracts.{longest, Lists}
-use Rattle.listing_text.specs.Contracts.{Wrote}
+use Rattle.listing.specs.Contracts.{longestLine, Lists}
+use Rattle.listing_text.specs.Contracts.{WroteText}
 use Rattle.listing_request.specs.Asked.{spaceByte}
 use Rattle.listing_request.specs.declared.Request.{Request}
 use Rattle.listing.specs.declared.Step.{Step}
@@ -43,7 +43,7 @@ pub count-fields : (n : ℕ) → bytes "windows " ++ field n newlineByte ≡ cou
 unfolding countLine
 count-fields n = refl
 
-pub line-few : (i : ℕ) (b : Bounds) → length (windowLine i b) ≤ longest
+pub line-few : (i : ℕ) (b : Bounds) → length (windowLine i b) ≤ longestLine
 line-few i b =
     omega (arith, ap length (window-fields i b), length-append (field i spaceByte) (field (b .start) spaceByte ++ field (b .end) newlineByte), length-append (field (b .start) spaceByte) (field (b .end) newlineByte), length-field i spaceByte, length-field (b .start) spaceByte, length-field (b .end) newlineByte, number-few i, number-few (b .start), number-few (b .end))
 
@@ -85,19 +85,19 @@ blocks-join ws from next a b =
 pub record Listing (q : Request) (from : ℕ) (out : List ℕ) (at next place : ℕ) (out′ : List ℕ) : Type 0 where
   pub goes : from ≤ next
   pub inside : place ≤ length out
-  pub wrote : Wrote (windowLines from (between (windowsListed q) from next)) out at place out′
+  pub wrote : WroteText (windowLines from (between (windowsListed q) from next)) out at place out′
 
 module _ (q : Request) (from : ℕ) (out : List ℕ) (at : ℕ) where
   pub listing-none : at ≤ length out → Listing q from out at from at out
   unfolding windowLines
   listing-none h =
       let z : from - from ≡ 0 = omega arith in
-      record { goes = omega arith; inside = h; wrote = subst (λ (m : ℕ). Wrote (windowLines from (take m (drop from (windowsListed q)))) out at at out) (sym z) (record { put = refl; ends = sym (add-zero at) }) }
+      record { goes = omega arith; inside = h; wrote = subst (λ (m : ℕ). WroteText (windowLines from (take m (drop from (windowsListed q)))) out at at out) (sym z) (record { put = refl; ends = sym (add-zero at) }) }
 
   pub listing-long : {next place : ℕ} {out′ : List ℕ} → Listing q from out at next place out′ → length out′ ≡ length out
   listing-long {next} {place} {out′} l = ap length (l .wrote .put) ∙ length-sets out at (windowLines from (between (windowsListed q) from next))
 
-  pub listing-more : {next place place′ : ℕ} {out′ out″ : List ℕ} → Listing q from out at next place out′ → next < length (windowsListed q) → place + longest ≤ length out → Wrote (windowLine next (getD (windowsListed q) next (bounds 0 0))) out′ place place′ out″ → Listing q from out at (next + 1) place′ out″
+  pub listing-more : {next place place′ : ℕ} {out′ out″ : List ℕ} → Listing q from out at next place out′ → next < length (windowsListed q) → place + longestLine ≤ length out → WroteText (windowLine next (getD (windowsListed q) next (bounds 0 0))) out′ place place′ out″ → Listing q from out at (next + 1) place′ out″
   listing-more {next} l b h w =
       record {
         goes = omega (arith, l .goes);
@@ -105,11 +105,11 @@ module _ (q : Request) (from : ℕ) (out : List ℕ) (at : ℕ) where
         wrote = wrote-as (sym (between-more (windowsListed q) from next (l .goes) b)) (wrote-then (l .wrote) w);
       }
 
-  pub listing-ends : {step : Step} {out′ : List ℕ} → Listing q from out at (step .next) (step .at) out′ → (length (windowsListed q) ≤ step .next) ⊎ (length out < step .at + longest) → Lists q from out at step out′
+  pub listing-ends : {step : Step} {out′ : List ℕ} → Listing q from out at (step .next) (step .at) out′ → (length (windowsListed q) ≤ step .next) ⊎ (length out < step .at + longestLine) → Lists q from out at step out′
   listing-ends l f = record { goes = l .goes; wrote = l .wrote; inside = l .inside; full = f }
 
 -- where there is room for a line and a window is left, it is listed
-pub lists-move : {q : Request} {from : ℕ} {out : List ℕ} {at : ℕ} {step : Step} {out′ : List ℕ} → Lists q from out at step out′ → from < length (windowsListed q) → at + longest ≤ length out → from < step .next
+pub lists-move : {q : Request} {from : ℕ} {out : List ℕ} {at : ℕ} {step : Step} {out′ : List ℕ} → Lists q from out at step out′ → from < length (windowsListed q) → at + longestLine ≤ length out → from < step .next
 unfolding windowLines
 lists-move {q} {from} {out} {at} {step} {out′} l b h = go (l .full)
   where
@@ -118,6 +118,6 @@ lists-move {q} {from} {out} {at} {step} {out′} l b h = go (l .full)
         let z : step .next - from ≡ 0 = omega arith in
         l .wrote .ends ∙ ap (λ (m : ℕ). at + length (windowLines from (take m (drop from (windowsListed q))))) z ∙ add-zero at
 
-    go : (length (windowsListed q) ≤ step .next) ⊎ (length out < step .at + longest) → from < step .next
+    go : (length (windowsListed q) ≤ step .next) ⊎ (length out < step .at + longestLine) → from < step .next
     go (inl all) = omega arith
     go (inr full) = ⊎-elim (λ (s : step .next ≤ from). absurd (omega (arith, stays s))) (λ (s : from < step .next). s) (either (step .next) from)

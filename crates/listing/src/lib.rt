@@ -4,9 +4,9 @@ ghost use mathlib.Core.Path.{_≡_};
 ghost use Prim.Native.Nat.{_≤_};
 ghost use lib.ListN.{length, getD};
 ghost use Rattle.cut_plan.specs.Cut.{bounds};
-ghost use Rattle.listing_text.specs.Contracts.{Wrote};
+ghost use Rattle.listing_text.specs.Contracts.{WroteText};
 ghost use Rattle.listing.specs.Answer.{windowsListed, countLine, firstLine, windowLine};
-ghost use Rattle.listing.specs.Contracts.{Room, Lists};
+ghost use Rattle.listing.specs.Contracts.{LineRoom, Lists};
 use cut_plan::Decision;
 use listing_request::Asked;
 use listing_request::Request;
@@ -63,8 +63,8 @@ fn former(rows: u32, i: u32) -> Bounds
 
 // The line about one window.
 fn write_window(number: u32, window: Bounds, out: &mut [u8], at: usize) -> usize
-    requires { ⌜ Room (now out) at ⌝ }
-    ensures { λ r. ⌜ Wrote (windowLine number window) (now (out .entry)) at r (now (out .exit)) ⌝ }
+    requires { ⌜ LineRoom (now out) at ⌝ }
+    ensures { λ r. ⌜ WroteText (windowLine number window) (now (out .entry)) at r (now (out .exit)) ⌝ }
 {
     let first = listing_text::write_field(number, SPACE, out, at);
     let second = listing_text::write_field(window.start, SPACE, out, first);
@@ -73,8 +73,8 @@ fn write_window(number: u32, window: Bounds, out: &mut [u8], at: usize) -> usize
 
 // The first line of an answer.
 pub fn write_first(asked: Asked, out: &mut [u8], at: usize) -> usize
-    requires { ⌜ Room (now out) at ⌝ }
-    ensures { λ r. ⌜ Wrote (firstLine asked) (now (out .entry)) at r (now (out .exit)) ⌝ }
+    requires { ⌜ LineRoom (now out) at ⌝ }
+    ensures { λ r. ⌜ WroteText (firstLine asked) (now (out .entry)) at r (now (out .exit)) ⌝ }
 {
     match asked {
         Asked::BadLine => listing_text::write_text(b"bad line\n", out, at),
@@ -83,8 +83,8 @@ pub fn write_first(asked: Asked, out: &mut [u8], at: usize) -> usize
 }
 
 fn write_decision(request: Request, out: &mut [u8], at: usize) -> usize
-    requires { ⌜ Room (now out) at ⌝ }
-    ensures { λ r. ⌜ Wrote (firstLine (Asked.Cut request)) (now (out .entry)) at r (now (out .exit)) ⌝ }
+    requires { ⌜ LineRoom (now out) at ⌝ }
+    ensures { λ r. ⌜ WroteText (firstLine (Asked.Cut request)) (now (out .entry)) at r (now (out .exit)) ⌝ }
 {
     let decision = cut_plan::decide(request.rows, request.max, request.stride);
     match decision {
@@ -97,8 +97,8 @@ fn write_decision(request: Request, out: &mut [u8], at: usize) -> usize
 
 // `windows`, and how many.
 fn write_count(n: u32, out: &mut [u8], at: usize) -> usize
-    requires { ⌜ Room (now out) at ⌝ }
-    ensures { λ r. ⌜ Wrote (countLine n) (now (out .entry)) at r (now (out .exit)) ⌝ }
+    requires { ⌜ LineRoom (now out) at ⌝ }
+    ensures { λ r. ⌜ WroteText (countLine n) (now (out .entry)) at r (now (out .exit)) ⌝ }
 {
     let next = listing_text::write_text(b"windows ", out, at);
     listing_text::write_field(n, NEWLINE, out, next)

@@ -10,7 +10,7 @@ use borrow.Author.Tests.{lt-ltb, le-ltb, eq-eqb, ne-eqb}
 use Rattle.cut_plan.specs.declared.Direction.the-variants.{Left, Right}
 use Rattle.lines.specs.declared.Number.{Number}
 use Rattle.lines.specs.declared.Number.the-variants.{Bad, Read}
-use Rattle.listing_request.specs.Asked.{spaceByte, letterL, letterR, spaced, fieldAt, withNumber, withLetter, within, askedOf}
+use Rattle.listing_request.specs.Asked.{spaceByte, letterL, letterR, spaced, fieldAt, withNumber, withLetter, cutWithin, askedOf}
 use Rattle.listing_request.specs.declared.Asked.{Asked}
 use Rattle.listing_request.specs.declared.Asked.the-variants.{BadLine}
 
@@ -30,7 +30,7 @@ module _ (line : List ℕ) (value next : ℕ) where
 
 module _ (line : List ℕ) where
   abbrev fromLast : ℕ → ℕ → ℕ → ℕ → Asked
-  fromLast rows max stride last = withLetter (drop last line) (within rows max stride)
+  fromLast rows max stride last = withLetter (drop last line) (cutWithin rows max stride)
 
   abbrev fromThird : ℕ → ℕ → ℕ → Asked
   fromThird rows max third = withNumber (fieldAt line third) (fromLast rows max)
@@ -61,14 +61,14 @@ module _ (line : List ℕ) where
         asked-more h = asked-last ∙ rw (drop-cons line last 0 (omega arith), drop-cons line (suc last) 0 (omega arith))
 
         module _ (h : last < length line) (one : length line - last ≤ 1) where
-          asked-letter : askedOf line ≡ withLetter (getD line last 0 ∷ []) (within rows max stride)
+          asked-letter : askedOf line ≡ withLetter (getD line last 0 ∷ []) (cutWithin rows max stride)
           asked-letter = asked-last ∙ rw (drop-cons line last 0 h, drop-of-length-le line {i = suc last} (omega arith))
 
-          pub asked-left : getD line last 0 ≡ letterL → askedOf line ≡ within rows max stride Left
+          pub asked-left : getD line last 0 ≡ letterL → askedOf line ≡ cutWithin rows max stride Left
           asked-left e = asked-letter ∙ rw (eq-eqb (getD line last 0) letterL e)
 
           module _ (other : getD line last 0 ≡ letterL → ⊥) where
-            pub asked-right : getD line last 0 ≡ letterR → askedOf line ≡ within rows max stride Right
+            pub asked-right : getD line last 0 ≡ letterR → askedOf line ≡ cutWithin rows max stride Right
             asked-right e = asked-letter ∙ rw (ne-eqb (getD line last 0) letterL other, eq-eqb (getD line last 0) letterR e)
 
             pub asked-other : (getD line last 0 ≡ letterR → ⊥) → askedOf line ≡ BadLine

@@ -49,8 +49,8 @@ abbrev pub request : ℕ → ℕ → ℕ → Direction → Request
 request rows max stride d = record { rows = rows; max = max; stride = stride; direction = d }
 
 -- "rows at most 65,536": the record's limit
-abbrev pub within : ℕ → ℕ → ℕ → Direction → Asked
-within rows max stride d = cond (leb rows mostRows) (Cut (request rows max stride d)) BadLine
+abbrev pub cutWithin : ℕ → ℕ → ℕ → Direction → Asked
+cutWithin rows max stride d = cond (leb rows mostRows) (Cut (request rows max stride d)) BadLine
 
 -- "three decimal numbers of 1 to 10 digits up to 4,294,967,295, rows at most 65,536, single spaces .. `bad line` for any
 -- other line"
@@ -60,4 +60,4 @@ askedOf line =
     withNumber (fieldAt line second) λ max third.
     withNumber (fieldAt line third) λ stride last.
     withLetter (drop last line) λ d.
-    within rows max stride d
+    cutWithin rows max stride d

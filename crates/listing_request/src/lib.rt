@@ -1,6 +1,6 @@
 // What a line of the window lister asks (document 01).
 ghost use mathlib.Core.Path.{_≡_};
-ghost use Rattle.listing_request.specs.Asked.{fieldAt, within, askedOf};
+ghost use Rattle.listing_request.specs.Asked.{fieldAt, cutWithin, askedOf};
 use cut_plan::Direction;
 use lines::Number;
 use record::Encoding;
@@ -81,7 +81,7 @@ fn field(line: &[u8], at: usize) -> Number
 
 // A cut of no more rows than an encoding has.
 fn few(rows: u32, max: u32, stride: u32, direction: Direction) -> Asked
-    ensures { λ r. ⌜ r ≡ within rows max stride direction ⌝ }
+    ensures { λ r. ⌜ r ≡ cutWithin rows max stride direction ⌝ }
 {
     if rows as usize <= Encoding::MOST_ROWS {
         return Asked::Cut(Request {

@@ -7,6 +7,6 @@ use lib.ListN.{length}
 use lib.Seq.{sets}
 
 -- `text` was written from `at` on, up to `next`; every other byte is as it was
-pub record Wrote (text : List ℕ) (out : List ℕ) (at next : ℕ) (out′ : List ℕ) : Type 0 where
+pub record WroteText (text : List ℕ) (out : List ℕ) (at next : ℕ) (out′ : List ℕ) : Type 0 where
   pub put : out′ ≡ sets out at text
   pub ends : next ≡ at + length text

@@ -4,7 +4,7 @@ ghost use mathlib.Core.Path.{_≡_};
 ghost use Prim.Native.Nat.{_+_, _≤_, _<_};
 ghost use lib.ListN.{length};
 ghost use Rattle.lines.specs.Decimal.{zeroByte};
-ghost use Rattle.listing_text.specs.Contracts.{Wrote};
+ghost use Rattle.listing_text.specs.Contracts.{WroteText};
 ghost use Rattle.listing_text.specs.Text.{numberText};
 
 const ZERO: u8 = b'0';
@@ -12,7 +12,7 @@ const ZERO: u8 = b'0';
 // A text, and the place after it.
 pub fn write_text(text: &[u8], out: &mut [u8], at: usize) -> usize
     requires { ⌜ at + length (now text) ≤ length (now out) ⌝ }
-    ensures { λ r. ⌜ Wrote (now (text .entry)) (now (out .entry)) at r (now (out .exit)) ⌝ }
+    ensures { λ r. ⌜ WroteText (now (text .entry)) (now (out .entry)) at r (now (out .exit)) ⌝ }
 {
     let mut i = 0;
     while i < text.len() {
@@ -25,7 +25,7 @@ pub fn write_text(text: &[u8], out: &mut [u8], at: usize) -> usize
 // The digits of a number, and the place after them: those of its tenth part, if it has more than one, and the last.
 pub fn write_number(value: u32, out: &mut [u8], at: usize) -> usize
     requires { ⌜ at + length (numberText value) ≤ length (now out) ⌝ }
-    ensures { λ r. ⌜ Wrote (numberText value) (now (out .entry)) at r (now (out .exit)) ⌝ }
+    ensures { λ r. ⌜ WroteText (numberText value) (now (out .entry)) at r (now (out .exit)) ⌝ }
 {
     if value > 9 {
         let last = write_number(value / 10, out, at);
@@ -43,7 +43,7 @@ fn digit(value: u32) -> u8
 
 fn write_byte(byte: u8, out: &mut [u8], at: usize) -> usize
     requires { ⌜ at < length (now out) ⌝ }
-    ensures { λ r. ⌜ Wrote (byte ∷ []) (now (out .entry)) at r (now (out .exit)) ⌝ }
+    ensures { λ r. ⌜ WroteText (byte ∷ []) (now (out .entry)) at r (now (out .exit)) ⌝ }
 {
     out[at] = byte;
     at + 1
@@ -52,7 +52,7 @@ fn write_byte(byte: u8, out: &mut [u8], at: usize) -> usize
 // A number and one byte.
 pub fn write_field(value: u32, byte: u8, out: &mut [u8], at: usize) -> usize
     requires { ⌜ at + length (numberText value) + 1 ≤ length (now out) ⌝ }
-    ensures { λ r. ⌜ Wrote (numberText value ++ (byte ∷ [])) (now (out .entry)) at r (now (out .exit)) ⌝ }
+    ensures { λ r. ⌜ WroteText (numberText value ++ (byte ∷ [])) (now (out .entry)) at r (now (out .exit)) ⌝ }
 {
     let next = write_number(value, out, at);
     write_byte(byte, out, next)

@@ -11,7 +11,7 @@ use lib.ListN.{length, getD, replicate, length-append, List·getD-append}
 use lib.Seq.{getD-append-add}
 use borrow.Author.Tests.{eqb-true, eqb-false, ltb-true, ltb-false}
 use Rattle.record.specs.Tree.{Encoding}
-use Rattle.lookup_ranges.specs.Ranges.{within, sequenceRange, sequenceAt, markAndId, column}
+use Rattle.lookup_ranges.specs.Ranges.{rowInside, sequenceRange, sequenceAt, markAndId, column}
 use Rattle.lookup_ranges.proofs.First.{not-found}
 
 -- ---- Its numbers
@@ -64,34 +64,34 @@ below-last j n h e = go (ltb j n) refl
 -- its id is below n and its rows hold this one, and those of no later id do
 pub record LastWithin (E : Encoding) (row n k : ℕ) : Type 0 where
   pub below : k < n
-  pub holds : within (sequenceRange E k) row ≡ true
-  pub none-after : (j : ℕ) → k < j → j < n → within (sequenceRange E j) row ≡ false
+  pub holds : rowInside (sequenceRange E k) row ≡ true
+  pub none-after : (j : ℕ) → k < j → j < n → rowInside (sequenceRange E j) row ≡ false
 
-pub sequence-nothing : (E : Encoding) (row n : ℕ) → sequenceAt E row n ≡ nothing → (j : ℕ) → j < n → within (sequenceRange E j) row ≡ false
+pub sequence-nothing : (E : Encoding) (row n : ℕ) → sequenceAt E row n ≡ nothing → (j : ℕ) → j < n → rowInside (sequenceRange E j) row ≡ false
 unfolding sequenceAt
 sequence-nothing E row zero e j h = absurd (omega arith)
-sequence-nothing E row (suc n) e j h = go (within (sequenceRange E n) row) refl e (λ s. sequence-nothing E row n s j) (eqb j n) refl
+sequence-nothing E row (suc n) e j h = go (rowInside (sequenceRange E n) row) refl e (λ s. sequence-nothing E row n s j) (eqb j n) refl
   where
-    go : (b : Bool) → within (sequenceRange E n) row ≡ b → cond b (some n) (sequenceAt E row n) ≡ nothing → (sequenceAt E row n ≡ nothing → j < n → within (sequenceRange E j) row ≡ false) → (c : Bool) → eqb j n ≡ c → within (sequenceRange E j) row ≡ false
+    go : (b : Bool) → rowInside (sequenceRange E n) row ≡ b → cond b (some n) (sequenceAt E row n) ≡ nothing → (sequenceAt E row n ≡ nothing → j < n → rowInside (sequenceRange E j) row ≡ false) → (c : Bool) → eqb j n ≡ c → rowInside (sequenceRange E j) row ≡ false
     go true b s rest c d = absurd (not-found s refl)
-    go false b s rest true d = ap (λ (k : ℕ). within (sequenceRange E k) row) (eqb-true j n d) ∙ b
+    go false b s rest true d = ap (λ (k : ℕ). rowInside (sequenceRange E k) row) (eqb-true j n d) ∙ b
     go false b s rest false d = rest s (below-last j n h (eqb-false j n d))
 
 pub sequence-found : (E : Encoding) (row n k : ℕ) → sequenceAt E row n ≡ some k → LastWithin E row n k
 unfolding sequenceAt
 sequence-found E row zero k e = absurd (not-found refl e)
-sequence-found E row (suc n) k e = go (within (sequenceRange E n) row) refl e (sequence-found E row n k)
+sequence-found E row (suc n) k e = go (rowInside (sequenceRange E n) row) refl e (sequence-found E row n k)
   where
-    last : n ≡ k → within (sequenceRange E n) row ≡ true → LastWithin E row (suc n) k
-    last e b = record { below = omega arith; holds = ap (λ (j : ℕ). within (sequenceRange E j) row) (sym e) ∙ b; none-after = λ j a h. absurd (omega arith) }
+    last : n ≡ k → rowInside (sequenceRange E n) row ≡ true → LastWithin E row (suc n) k
+    last e b = record { below = omega arith; holds = ap (λ (j : ℕ). rowInside (sequenceRange E j) row) (sym e) ∙ b; none-after = λ j a h. absurd (omega arith) }
 
-    earlier : within (sequenceRange E n) row ≡ false → LastWithin E row n k → LastWithin E row (suc n) k
+    earlier : rowInside (sequenceRange E n) row ≡ false → LastWithin E row n k → LastWithin E row (suc n) k
     earlier b f = record { below = omega arith; holds = f .holds; none-after = λ j a h. after j a h (eqb j n) refl }
       where
-        after : (j : ℕ) → k < j → j < suc n → (c : Bool) → eqb j n ≡ c → within (sequenceRange E j) row ≡ false
-        after j a h true d = ap (λ (i : ℕ). within (sequenceRange E i) row) (eqb-true j n d) ∙ b
+        after : (j : ℕ) → k < j → j < suc n → (c : Bool) → eqb j n ≡ c → rowInside (sequenceRange E j) row ≡ false
+        after j a h true d = ap (λ (i : ℕ). rowInside (sequenceRange E i) row) (eqb-true j n d) ∙ b
         after j a h false d = f .none-after j a (below-last j n h (eqb-false j n d))
 
-    go : (b : Bool) → within (sequenceRange E n) row ≡ b → cond b (some n) (sequenceAt E row n) ≡ some k → (sequenceAt E row n ≡ some k → LastWithin E row n k) → LastWithin E row (suc n) k
+    go : (b : Bool) → rowInside (sequenceRange E n) row ≡ b → cond b (some n) (sequenceAt E row n) ≡ some k → (sequenceAt E row n ≡ some k → LastWithin E row n k) → LastWithin E row (suc n) k
     go true b s rest = last (cc) b
     go false b s rest = earlier b (rest s)

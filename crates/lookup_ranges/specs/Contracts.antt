@@ -9,7 +9,7 @@ use mathlib.Core.Path.{_≡_}
 use mathlib.Core.Bool.{cond}
 use mathlib.Core.Option.{Option, some, none as nothing}
 use lib.ListN.{length}
-use Rattle.lookup_ranges.specs.Ranges.{within, column}
+use Rattle.lookup_ranges.specs.Ranges.{rowInside, column}
 use Rattle.record.specs.declared.Bounds.{Bounds}
 use Rattle.lookup_ranges.specs.declared.Sequence.{Sequence}
 use Rattle.lookup_ranges.specs.declared.Sequence.the-variants as sequence
@@ -27,7 +27,7 @@ sequenceFound (some k) = sequence.Found k
 
 -- "later ids overwriting": the rows within b are in sequence id, the others where f has them
 abbrev pub marked : Bounds → ℕ → (ℕ → Option ℕ) → ℕ → Option ℕ
-marked b id f row = cond (within b row) (some id) (f row)
+marked b id f row = cond (rowInside b row) (some id) (f row)
 
 -- a list that began with the column of f now begins with that of `marked`, and is otherwise as it was
 abbrev pub Marks : Bounds → ℕ → List ℕ → List ℕ → Type 0

@@ -39,13 +39,13 @@ tokenToSequence E row =
 
 -- ---- The sequence column
 
-abbrev pub within : Bounds → ℕ → Bool
-within b row = leb (b .start) row && ltb row (b .end)
+abbrev pub rowInside : Bounds → ℕ → Bool
+rowInside b row = leb (b .start) row && ltb row (b .end)
 
 -- "goes through ids 0 to n−1, later ids overwriting": of the ids below k the last whose range holds the row
 unfoldable pub sequenceAt : Encoding → ℕ → ℕ → Option ℕ
 sequenceAt E row zero = nothing
-sequenceAt E row (suc k) = cond (within (sequenceRange E k) row) (some k) (sequenceAt E row k)
+sequenceAt E row (suc k) = cond (rowInside (sequenceRange E k) row) (some k) (sequenceAt E row k)
 
 -- "mark and id": zeros where there is none
 abbrev pub markAndId : Option ℕ → List ℕ

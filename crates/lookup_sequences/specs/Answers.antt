@@ -38,8 +38,8 @@ foundAnswer (sequence.Found k) = sequence-answer.Found k
 abbrev pub rangeAnswer : Reading → ℕ → RangeAnswer
 rangeAnswer batch id = ofOne (range-answer.Refused MalformedRecord) (λ E. rowsAnswer (sequenceRange E id)) batch
 
-abbrev pub countAnswer : Reading → CountAnswer
-countAnswer batch = ofOne (count-answer.Refused MalformedRecord) (λ E. count-answer.Count (nSequences E)) batch
+abbrev pub sequenceCountAnswer : Reading → CountAnswer
+sequenceCountAnswer batch = ofOne (count-answer.Refused MalformedRecord) (λ E. count-answer.Count (nSequences E)) batch
 
 abbrev pub sequenceAnswer : Reading → ℕ → SequenceAnswer
 sequenceAnswer batch row = ofOne (sequence-answer.Refused MalformedRecord) (λ E. foundAnswer (sequenceFound (tokenToSequence E row))) batch

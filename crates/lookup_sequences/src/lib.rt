@@ -2,7 +2,7 @@
 // one encoding, of which these operations read the top node; any other is refused with 1.
 ghost use mathlib.Core.Path.{_≡_};
 ghost use lib.ListN.{length};
-ghost use Rattle.lookup_sequences.specs.Answers.{rangeAnswer, countAnswer, sequenceAnswer, sequenceIds, columnAnswer, columnLeft};
+ghost use Rattle.lookup_sequences.specs.Answers.{rangeAnswer, sequenceCountAnswer, sequenceAnswer, sequenceIds, columnAnswer, columnLeft};
 ghost use Rattle.record.specs.Read.{read};
 use lookup_ranges::Sequence;
 use record::Refusal;
@@ -47,7 +47,7 @@ pub fn sequence_range(nodes: &[u32], rows: &[u32], sequence_id: u32) -> RangeAns
 
 // The number of sequences: of the ranges, or 1 if there is none. Refusal: 1.
 pub fn n_sequences(nodes: &[u32], rows: &[u32]) -> CountAnswer
-    ensures { λ r. ⌜ r ≡ countAnswer (read (now (nodes .entry)) (now (rows .entry))) ⌝ }
+    ensures { λ r. ⌜ r ≡ sequenceCountAnswer (read (now (nodes .entry)) (now (rows .entry))) ⌝ }
 {
     if record_check::is_one(nodes, rows) {
         return CountAnswer::Count(lookup_ranges::count_of(nodes));

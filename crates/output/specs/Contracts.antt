@@ -10,7 +10,7 @@ use Rattle.io.specs.Digits.{Fewest}
 use Rattle.output.specs.declared.Written.{Written}
 
 -- so many bytes were taken, no more than there are, and all of them are told exactly if none is left
-pub record Writes (bytes : List ℕ) (r : Written) : Type 0 where
+pub record WritesBytes (bytes : List ℕ) (r : Written) : Type 0 where
   pub inside : r .count ≤ length bytes
   pub told : r .all ≡ eqb (r .count) (length bytes)
 

@@ -1,6 +1,6 @@
 // Standard output for programs. What is written is a beginning of what was to be written: no byte is left out, and none follows
 // a write that failed. A program is to end at the first one that did.
-ghost use Rattle.output.specs.Contracts.{Writes, Digits};
+ghost use Rattle.output.specs.Contracts.{WritesBytes, Digits};
 ghost use Prim.Native.Nat.{_≤_};
 ghost use lib.ListN.{length};
 use libc::STDOUT_FILENO;
@@ -13,7 +13,7 @@ pub struct Written {
 
 // Writes bytes to standard output. If that fails, a line on standard error says so, and why.
 pub fn print(bytes: &[u8]) -> Written
-    ensures { λ r. ⌜ Writes (now (bytes .entry)) r ⌝ }
+    ensures { λ r. ⌜ WritesBytes (now (bytes .entry)) r ⌝ }
 {
     let written = write(bytes);
     if !written.all {
@@ -35,7 +35,7 @@ pub fn print_number(number: u64) -> Written
 // A proved loop has to end, and nothing says that a reader ever takes what is written: so the turns are counted down, from a
 // number that no run uses up.
 pub fn write(bytes: &[u8]) -> Written
-    ensures { λ r. ⌜ Writes (now (bytes .entry)) r ⌝ }
+    ensures { λ r. ⌜ WritesBytes (now (bytes .entry)) r ⌝ }
 {
     let mut count = 0;
     let mut turns = u64::MAX;

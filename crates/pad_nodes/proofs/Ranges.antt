@@ -22,7 +22,7 @@ use Rattle.lists.proofs.FlatMap.{flatMap-append}
 use Rattle.cut_plan.specs.declared.Direction.{Direction}
 use Rattle.cut_plan.specs.declared.Direction.the-variants.{Left, Right}
 use Rattle.pad_nodes.specs.Shifted.{shiftedPresent}
-use Rattle.pad_nodes.specs.Contracts.{Shiftable, nodeNumbers, AskRange, AskNode}
+use Rattle.pad_nodes.specs.Contracts.{Shiftable, paddedNode, AskShiftRange, AskShiftNode}
 use Rattle.record.specs.Passing.{rangesAt}
 
 -- ---- One range
@@ -103,7 +103,7 @@ all-at M (suc m) (suc k) l (h, hs) e =
     subst (λ (t : List ℕ). M (rangeAt t)) (drop-drop (k * 3) 3 l ∙ ap (λ (t : ℕ). drop t l) d) (all-at M m k (drop 3 l) hs (omega arith))
 
 -- range k can be shifted if the node's can
-pub range-asks : {nodes : List ℕ} {i n : ℕ} {was : List ℕ} → AskNode nodes i n was → (k : ℕ) {at : ℕ} (out : List ℕ) → length out ≡ length was → k < sequences → at ≡ i + 2 + k * 3 → AskRange nodes at n out
+pub range-asks : {nodes : List ℕ} {i n : ℕ} {was : List ℕ} → AskShiftNode nodes i n was → (k : ℕ) {at : ℕ} (out : List ℕ) → length out ≡ length was → k < sequences → at ≡ i + 2 + k * 3 → AskShiftRange nodes at n out
 range-asks {nodes} {i} {n} {was} h k {at} out l b e =
     record {
       stands = omega (arith, h .stands);
@@ -124,10 +124,10 @@ module _ (nodes : List ℕ) (i count n : ℕ) (was : List ℕ) where
   abbrev counted : List ℕ
   counted = set (set was i count) (i + 1) (getD nodes (i + 1) 0)
 
-  pub node-left : {out : List ℕ} {d : Direction} → d ≡ Left → out ≡ sets counted (i + 2) (flatMap rangeNumbers (map (shiftedPresent n) (rangesAt nodes i))) → out ≡ sets was i (nodeNumbers nodes i count n d)
-  node-left {out} {d} e p = p ∙ node-put was i count (getD nodes (i + 1) 0) (flatMap rangeNumbers (map (shiftedPresent n) (rangesAt nodes i))) ∙ ap (λ (d : Direction). sets was i (nodeNumbers nodes i count n d)) (sym e)
+  pub node-left : {out : List ℕ} {d : Direction} → d ≡ Left → out ≡ sets counted (i + 2) (flatMap rangeNumbers (map (shiftedPresent n) (rangesAt nodes i))) → out ≡ sets was i (paddedNode nodes i count n d)
+  node-left {out} {d} e p = p ∙ node-put was i count (getD nodes (i + 1) 0) (flatMap rangeNumbers (map (shiftedPresent n) (rangesAt nodes i))) ∙ ap (λ (d : Direction). sets was i (paddedNode nodes i count n d)) (sym e)
 
-  pub node-right : {out : List ℕ} {d : Direction} → d ≡ Right → i + nodeWidth ≤ length nodes → out ≡ sets counted (i + 2) (take (sequences * 3) (drop (i + 2) nodes)) → out ≡ sets was i (nodeNumbers nodes i count n d)
+  pub node-right : {out : List ℕ} {d : Direction} → d ≡ Right → i + nodeWidth ≤ length nodes → out ≡ sets counted (i + 2) (take (sequences * 3) (drop (i + 2) nodes)) → out ≡ sets was i (paddedNode nodes i count n d)
   node-right {out} {d} e h p =
       p ∙ ap (sets counted (i + 2)) (ranges-copied sequences (drop (i + 2) nodes) (omega (arith, length-drop (i + 2) nodes)))
-      ∙ node-put was i count (getD nodes (i + 1) 0) (flatMap rangeNumbers (rangesAt nodes i)) ∙ ap (λ (d : Direction). sets was i (nodeNumbers nodes i count n d)) (sym e)
+      ∙ node-put was i count (getD nodes (i + 1) 0) (flatMap rangeNumbers (rangesAt nodes i)) ∙ ap (λ (d : Direction). sets was i (paddedNode nodes i count n d)) (sym e)

@@ -12,22 +12,22 @@ use Rattle.cut_plan.specs.declared.Direction.{Direction}
 use Rattle.pad_nodes.specs.Shifted.{paddedRanges}
 
 -- the numbers of the node at i, with so many rows now and so many of them new
-abbrev pub nodeNumbers : List ℕ → ℕ → ℕ → ℕ → Direction → List ℕ
-nodeNumbers nodes i count new d = count ∷ getD nodes (i + 1) 0 ∷ flatMap rangeNumbers (paddedRanges d new (rangesAt nodes i))
+abbrev pub paddedNode : List ℕ → ℕ → ℕ → ℕ → Direction → List ℕ
+paddedNode nodes i count new d = count ∷ getD nodes (i + 1) 0 ∷ flatMap rangeNumbers (paddedRanges d new (rangesAt nodes i))
 
 -- a range that can be shifted within 32 bits
 abbrev pub Shiftable : Range → Type 0
 Shiftable p = (p .present ≤ 1) × (p .start ≤ mostRows) × (p .end ≤ mostRows)
 
 -- A range stands at this place, it can be shifted, and there is room for it at the same place.
-pub record AskRange (nodes : List ℕ) (at shift : ℕ) (out : List ℕ) : Type 0 where
+pub record AskShiftRange (nodes : List ℕ) (at shift : ℕ) (out : List ℕ) : Type 0 where
   pub stands : at + 3 ≤ length nodes
   pub fits : at + 3 ≤ length out
   pub few : shift ≤ mostRows
   pub small : Shiftable (rangeAt (drop at nodes))
 
 -- A node stands at i, its ranges can be shifted, and there is room for it at the same place.
-pub record AskNode (nodes : List ℕ) (i shift : ℕ) (out : List ℕ) : Type 0 where
+pub record AskShiftNode (nodes : List ℕ) (i shift : ℕ) (out : List ℕ) : Type 0 where
   pub stands : i + nodeWidth ≤ length nodes
   pub fits : i + nodeWidth ≤ length out
   pub few : shift ≤ mostRows

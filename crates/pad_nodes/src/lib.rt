@@ -4,7 +4,7 @@ ghost use mathlib.Core.Path.{_≡_};
 ghost use Prim.Native.Nat.{_+_};
 ghost use lib.ListN.{drop};
 ghost use lib.Seq.{sets};
-ghost use Rattle.pad_nodes.specs.Contracts.{nodeNumbers, AskRange, AskNode};
+ghost use Rattle.pad_nodes.specs.Contracts.{paddedNode, AskShiftRange, AskShiftNode};
 ghost use Rattle.pad_nodes.specs.Shifted.{shiftedPresent};
 ghost use Rattle.record.specs.Flat.{rangeNumbers, rangeAt};
 ghost use Rattle.record.specs.Passing.{rangesAt};
@@ -20,8 +20,8 @@ pub fn write_node(
     direction: Direction,
     out: &mut [u32],
 )
-    requires { ⌜ AskNode (now nodes) i new (now out) ⌝ }
-    ensures { λ _. ⌜ now (out .exit) ≡ sets (now (out .entry)) i (nodeNumbers (now (nodes .entry)) i count new direction) ⌝ }
+    requires { ⌜ AskShiftNode (now nodes) i new (now out) ⌝ }
+    ensures { λ _. ⌜ now (out .exit) ≡ sets (now (out .entry)) i (paddedNode (now (nodes .entry)) i count new direction) ⌝ }
 {
     out[i] = count;
     out[i + 1] = nodes[i + 1];
@@ -36,7 +36,7 @@ pub fn write_node(
 
 // The ranges of the node at i, shifted, into the same place of the output.
 fn shift_ranges(nodes: &[u32], i: usize, shift: u32, out: &mut [u32])
-    requires { ⌜ AskNode (now nodes) i shift (now out) ⌝ }
+    requires { ⌜ AskShiftNode (now nodes) i shift (now out) ⌝ }
     ensures { λ _. ⌜ now (out .exit) ≡ sets (now (out .entry)) (i + 2) (flatMap rangeNumbers
         (map (shiftedPresent shift) (rangesAt (now (nodes .entry)) i))) ⌝ }
 {
@@ -51,7 +51,7 @@ fn shift_ranges(nodes: &[u32], i: usize, shift: u32, out: &mut [u32])
 
 // The range at a place, shifted, into the same place of the output. An absent one stays absent.
 fn shift_range(nodes: &[u32], at: usize, shift: u32, out: &mut [u32])
-    requires { ⌜ AskRange (now nodes) at shift (now out) ⌝ }
+    requires { ⌜ AskShiftRange (now nodes) at shift (now out) ⌝ }
     ensures { λ _. ⌜ now (out .exit) ≡ sets (now (out .entry)) at (rangeNumbers
         (shiftedPresent shift (rangeAt (drop at (now (nodes .entry)))))) ⌝ }
 {

@@ -23,7 +23,7 @@ use Rattle.pad_nodes.specs.Shifted.{paddedRanges}
 use Rattle.pad_rows.specs.NewRows.{padRow, beside, paddedRows}
 use Rattle.pad_rows.specs.Contracts.{padNumbers}
 use Rattle.pad_write.specs.Contracts.{Filled}
-use Rattle.pad_nodes.specs.Contracts.{nodeNumbers, Shiftable, AskNode}
+use Rattle.pad_nodes.specs.Contracts.{paddedNode, Shiftable, AskShiftNode}
 use Rattle.record.specs.Passing.{rangesAt, followed, NodesToCome, RowsToCome}
 use Rattle.pad_write.proofs.Followed.{followed-padded}
 use Rattle.record.proofs.Passing.{followed-nodes, followed-rows, nodes-left, coming-size, coming-windows, coming-fits, coming-ranges, coming-next, coming-own, coming-rows-fit, coming-rows-next}
@@ -51,10 +51,10 @@ module _ (target : ℕ) (token : PadToken) (d : Direction) where
     new-is : new ≡ target - length r
     new-is = omega (arith, size-is)
 
-    first-node-long : length (nodeNumbers nodes i count new d) ≡ nodeWidth
+    first-node-long : length (paddedNode nodes i count new d) ≡ nodeWidth
     first-node-long = omega (arith, node-width, length-numbers range-stored (paddedRanges d new (rangesAt nodes i)), length-ranges d new (rangesAt nodes i), ap length (coming-ranges h), h .fine .0 .places)
 
-    first-node : flatNodes (padded target token d (node r q w x)) ≡ nodeNumbers nodes i count new d ++ flatNodes (padded target token d (followed w x))
+    first-node : flatNodes (padded target token d (node r q w x)) ≡ paddedNode nodes i count new d ++ flatNodes (padded target token d (followed w x))
     unfolding flatNodes
     first-node =
         let a : length (paddedRows target token d r) ≡ count = omega (arith, padded-length target token d r, size-is) in
@@ -125,7 +125,7 @@ module _ (target : ℕ) (token : PadToken) (d : Direction) where
       pub stands : i + nodeWidth ≤ length nodes
       pub rows-stand : from + size * rowWidth ≤ length rows
       pub few : max size target ≤ mostRows
-      pub asks : AskNode nodes i (max size target - size) out₁
+      pub asks : AskShiftNode nodes i (max size target - size) out₁
       pub rows-fit : to + max size target * rowWidth ≤ length out′
 
     pub growing-turn : i < length nodes → length nodes ≤ length out → rowsWith target f ≤ mostRows → rowsWith target f * rowWidth ≤ length out′ → Turn (getD nodes i 0)
@@ -145,7 +145,7 @@ module _ (target : ℕ) (token : PadToken) (d : Direction) where
 
     -- and then there is one more node
     pub growing-on : i < length nodes → {out₂ out₂′ : List ℕ} {size count new : ℕ} → size ≡ getD nodes i 0 → count ≡ max size target → new ≡ count - size
-        → out₂ ≡ sets out₁ i (nodeNumbers nodes i count new d) → out₂′ ≡ sets out₁′ to (beside d (padNumbers token new) (take (size * rowWidth) (drop from rows)))
+        → out₂ ≡ sets out₁ i (paddedNode nodes i count new d) → out₂′ ≡ sets out₁′ to (beside d (padNumbers token new) (take (size * rowWidth) (drop from rows)))
         → Growing nodes rows out out′ f out₂ out₂′ (i + nodeWidth) (from + size * rowWidth) (to + count * rowWidth)
     growing-on l {out₂} {out₂′} {size} {count} {new} s c n p p′ = go (g .to-come) (g .coming) (g .coming-rows) (g .nodes-all) (g .rows-all)
       where
@@ -153,7 +153,7 @@ module _ (target : ℕ) (token : PadToken) (d : Direction) where
             → Growing nodes rows out out′ f out₂ out₂′ (i + nodeWidth) (from + size * rowWidth) (to + count * rowWidth)
         go none h k a b = absurd (omega (arith, nodes-left h))
         go (node r q w x) h k a b =
-            let N = nodeNumbers nodes i count new d in
+            let N = paddedNode nodes i count new d in
             let R = beside d (padNumbers token new) (take (size * rowWidth) (drop from rows)) in
             record {
               to-come = followed w x;

@@ -5,7 +5,7 @@ ghost use Prim.Native.Nat.{_*_};
 ghost use lib.ListN.{length};
 ghost use Rattle.template_find.specs.Contracts.{IdsInside};
 ghost use Rattle.template_text.specs.Template.{mostParts, pieceWidth};
-ghost use Rattle.process_check.specs.Contracts.{Decides, Two, SecondAt, ChecksTemplate, namesSecond};
+ghost use Rattle.process_check.specs.Contracts.{DecidesProcess, OneOrTwoStored, SecondAt, ChecksTemplate, namesSecond};
 ghost use Rattle.process_check.specs.Process.{processOutcome};
 use process_plan::PlanAnswer;
 use record::Encoding;
@@ -38,7 +38,7 @@ pub fn decide<'a>(
     steps: &mut [u32],
 ) -> Decision
     requires { ⌜ length (now steps) ≡ mostParts * pieceWidth ⌝ }
-    ensures { λ r. ⌜ Decides
+    ensures { λ r. ⌜ DecidesProcess
         (processOutcome (now (nodes .entry)) (now (rows .entry)) «single_set» (now (single .entry)) «pair_set» (now (pair .entry))
         (now (entries .entry)) (now (members .entry)) (now (added .entry)) «add_special_tokens»)
         (now (nodes .entry)) (now (rows .entry)) (now (entries .entry)) (now (members .entry)) (now (steps .exit)) r ⌝ }
@@ -92,7 +92,7 @@ fn text_for<'a>(
 
 // Where the second encoding stands, or where it would.
 fn second_spot(nodes: &[u32], rows: &[u32]) -> Spot
-    requires { ⌜ Two (now nodes) (now rows) ⌝ }
+    requires { ⌜ OneOrTwoStored (now nodes) (now rows) ⌝ }
     ensures { λ r. ⌜ SecondAt (now (nodes .entry)) (now (rows .entry)) r ⌝ }
 {
     let first = record_extent::measure(nodes, 0, 1);

@@ -15,7 +15,7 @@ use Rattle.lists.proofs.FlatMap.{map-append}
 use Rattle.template_pieces.specs.Piece.{Piece, sequenceA, sequenceB, special}
 use Rattle.template_entries.specs.Table.{Special, entriesIn}
 use Rattle.template_find.specs.Last.{lastWith}
-use Rattle.template_find.specs.Contracts.{entryHasId, foundAnswer}
+use Rattle.template_find.specs.Contracts.{entryHasId, entryAnswer}
 use Rattle.template_entries.proofs.EntryMembers.{members-there, members-special}
 use Rattle.template_entries.proofs.Sound.{TableHolds}
 use Rattle.template_find.proofs.Found.{missing, found-among, found-is}
@@ -65,23 +65,23 @@ module _ {entries members added : List ℕ} {table : List Special} (h : TableHol
   module _ (t : ℕ) (id : List ℕ) where
     -- the entry and its members are those of the table
     special-fine : All (StepFine entries members second) (listed (specialStep entries added t id))
-    unfolding specialStep foundAnswer
+    unfolding specialStep entryAnswer
     special-fine = go (lastFrom (entryHasId added id) 0 (entriesIn entries)) refl
       where
         go : (o : Option ℕ) → lastFrom (entryHasId added id) 0 (entriesIn entries) ≡ o → All (StepFine entries members second) (listed (specialStep entries added t id))
         go nothing e = rw e tt
         go (some k) e =
-            rw e (members-there h k (found-among entries added id (ap foundAnswer e)), tt)
+            rw e (members-there h k (found-among entries added id (ap entryAnswer e)), tt)
 
     -- and they are the members of the special id
     special-made : (E : Encoding) → map (stepEncoding entries members E second) (listed (specialStep entries added t id)) ≡ ofSpecial t (lastWith id table)
-    unfolding specialStep foundAnswer
+    unfolding specialStep entryAnswer
     special-made E = go (lastFrom (entryHasId added id) 0 (entriesIn entries)) refl
       where
         go : (o : Option ℕ) → lastFrom (entryHasId added id) 0 (entriesIn entries) ≡ o → map (stepEncoding entries members E second) (listed (specialStep entries added t id)) ≡ ofSpecial t (lastWith id table)
         go nothing e = rw (e, missing h id e)
         go (some k) e =
-            rw (found-is h id (ap foundAnswer e), e, members-special h k)
+            rw (found-is h id (ap entryAnswer e), e, members-special h k)
 
   piece-fine : (add : Bool) (p : Piece) → lacksSecond second (p ∷ []) ≡ false → All (StepFine entries members second) (stepsOf entries added add p)
   piece-fine add (sequenceA t) e = (tt, tt)

@@ -15,7 +15,7 @@ use Rattle.template_entries.specs.Table.{Special as SpecialId, entriesIn}
 use Rattle.template_entries.proofs.Sound.{TableHolds}
 use Rattle.template_find.specs.Last.{lastWith}
 use Rattle.template_find.proofs.Found.{missing}
-use Rattle.template_find.specs.Contracts.{entryHasId, foundAnswer}
+use Rattle.template_find.specs.Contracts.{entryHasId, entryAnswer}
 use Rattle.template_find.specs.declared.FoundEntry.the-variants.{Unknown as NotFound, At}
 use Rattle.process_steps.specs.declared.Step.{Step}
 use Rattle.process_steps.specs.declared.Step.the-variants.{First, Second, Special}
@@ -25,13 +25,13 @@ use Rattle.process_plan.specs.declared.StepAnswer.the-variants.{Unknown,
 -- ---- The answer, kind by kind
 
 -- an entry that was not found, or was
-step-unknown : (t : ℕ) (o : Option ℕ) → foundAnswer o ≡ NotFound → Unknown ≡ stepAnswer (Option·map (Special t) o)
-unfolding foundAnswer stepAnswer
+step-unknown : (t : ℕ) (o : Option ℕ) → entryAnswer o ≡ NotFound → Unknown ≡ stepAnswer (Option·map (Special t) o)
+unfolding entryAnswer stepAnswer
 step-unknown t nothing e = refl
 step-unknown t (some j) e = cc
 
-step-found : (t : ℕ) (o : Option ℕ) {k : ℕ} → foundAnswer o ≡ At k → Found (Special t k) ≡ stepAnswer (Option·map (Special t) o)
-unfolding foundAnswer stepAnswer
+step-found : (t : ℕ) (o : Option ℕ) {k : ℕ} → entryAnswer o ≡ At k → Found (Special t k) ≡ stepAnswer (Option·map (Special t) o)
+unfolding entryAnswer stepAnswer
 step-found t nothing e = cc
 step-found t (some j) {k} e = let here : k ≡ j = cc in rw here
 
@@ -46,11 +46,11 @@ module _ (entries added : List ℕ) {kind : ℕ} (t : ℕ) (id : List ℕ) where
     answer-b e = rw (ne-eqb kind 0 a, eq-eqb kind 1 e)
 
     module _ (b : kind ≡ 1 → ⊥) where
-      pub answer-unknown : foundAnswer (lastFrom (entryHasId added id) 0 (entriesIn entries)) ≡ NotFound → Unknown ≡ stepAnswer (stepOf entries added kind t id)
+      pub answer-unknown : entryAnswer (lastFrom (entryHasId added id) 0 (entriesIn entries)) ≡ NotFound → Unknown ≡ stepAnswer (stepOf entries added kind t id)
       unfolding stepOf specialStep
       answer-unknown e = rw (ne-eqb kind 0 a, ne-eqb kind 1 b) (step-unknown t (lastFrom (entryHasId added id) 0 (entriesIn entries)) e)
 
-      pub answer-entry : {k : ℕ} → foundAnswer (lastFrom (entryHasId added id) 0 (entriesIn entries)) ≡ At k → Found (Special t k) ≡ stepAnswer (stepOf entries added kind t id)
+      pub answer-entry : {k : ℕ} → entryAnswer (lastFrom (entryHasId added id) 0 (entriesIn entries)) ≡ At k → Found (Special t k) ≡ stepAnswer (stepOf entries added kind t id)
       unfolding stepOf specialStep
       answer-entry e = rw (ne-eqb kind 0 a, ne-eqb kind 1 b) (step-found t (lastFrom (entryHasId added id) 0 (entriesIn entries)) e)
 

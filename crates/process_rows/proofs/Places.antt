@@ -14,7 +14,7 @@ use Rattle.record.specs.Standing.{At}
 use Rattle.record.proofs.Flat.{length-nodes}
 use Rattle.record.proofs.Standing.{at-size, at-count}
 use Rattle.join_levels_stored.specs.Contracts.{EncodingAt}
-use Rattle.process_rows.specs.Contracts.{SecondStands, WindowlessAt, RowsAt}
+use Rattle.process_rows.specs.Contracts.{SecondStands, WindowlessAt, SecondRows}
 
 -- its rows need not be known: any will do
 at-any : {nodes : List ℕ} {k : ℕ} {F : Encoding} → EncodingAt nodes k F → At nodes (flatRows (forest (F ∷ []))) k 0 (forest (F ∷ []))
@@ -35,7 +35,7 @@ module _ (nodes : List ℕ) (k : ℕ) where
     windows-there nothing h = absurd (omega arith)
     windows-there (some F) h = ap (λ (n : ℕ). eqb n 0) (at-count (at-any h))
 
-    pub rows-there : RowsAt nodes k (getD nodes k 0)
+    pub rows-there : SecondRows nodes k (getD nodes k 0)
     rows-there nothing h = absurd (omega arith)
     rows-there (some F) h = at-size (at-any h)
 
@@ -46,6 +46,6 @@ module _ (nodes : List ℕ) (k : ℕ) where
     windows-past nothing h = refl
     windows-past (some F) h = absurd (omega (arith, long h))
 
-    pub rows-past : RowsAt nodes k 0
+    pub rows-past : SecondRows nodes k 0
     rows-past nothing h = refl
     rows-past (some F) h = absurd (omega (arith, long h))

@@ -13,7 +13,7 @@ use Rattle.process_steps.specs.declared.Step.{Step}
 use Rattle.process_steps.specs.Contracts.{EntryThere}
 use Rattle.process_steps.specs.Steps.{secondOr, stepAt, stepEncoding}
 use Rattle.process_steps.proofs.Steps.{fine-there}
-use Rattle.process_rows.specs.Contracts.{StepsOf, RowsAt, Alone, stepRows}
+use Rattle.process_rows.specs.Contracts.{StepsOf, SecondRows, Alone, stepRows}
 use Rattle.process_rows.proofs.Alone.{alone-step, alone-join}
 use Rattle.process_rows.proofs.Walked.{Walked, walked-any, next, walked-more}
 
@@ -26,7 +26,7 @@ module _ {nodes : List ℕ} {k : ℕ} {entries numbers : List ℕ} {count : ℕ}
   pub step-there : EntryThere entries s
   step-there = fine-there entries members second s (next h (walked-any {f = stepEncoding entries members E second} steps i (omega (arith, l, h .counted))) l there .fine)
 
-  pub rows-more : {a b m n : ℕ} → RowsAt nodes 0 a → RowsAt nodes k b → length (windows E) ≡ 0 → length (windows (secondOr second)) ≡ 0 → n ≡ stepRows entries a b s → Walked (stepEncoding entries members E second) (AloneWith m) steps i → Walked (stepEncoding entries members E second) (AloneWith (m + n)) steps (i + 1)
+  pub rows-more : {a b m n : ℕ} → SecondRows nodes 0 a → SecondRows nodes k b → length (windows E) ≡ 0 → length (windows (secondOr second)) ≡ 0 → n ≡ stepRows entries a b s → Walked (stepEncoding entries members E second) (AloneWith m) steps i → Walked (stepEncoding entries members E second) (AloneWith (m + n)) steps (i + 1)
   rows-more {a} {b} rows rows′ e e′ is w =
       let t = next h w l there in
       let one : Alone E a = record { no-windows = e; rows-are = sym (rows (some E) (h .first-stands)) } in

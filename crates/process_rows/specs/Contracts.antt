@@ -53,8 +53,8 @@ abbrev pub WindowlessAt : List ℕ → ℕ → Bool → Type 0
 WindowlessAt nodes k b = (o : Option Encoding) → SecondStands nodes k o → b ≡ eqb (length (windows (secondOr o))) 0
 
 -- its own rows
-abbrev pub RowsAt : List ℕ → ℕ → ℕ → Type 0
-RowsAt nodes k n = (o : Option Encoding) → SecondStands nodes k o → n ≡ length (secondOr o .rows)
+abbrev pub SecondRows : List ℕ → ℕ → ℕ → Type 0
+SecondRows nodes k n = (o : Option Encoding) → SecondStands nodes k o → n ≡ length (secondOr o .rows)
 
 -- ---- Where there are no windows
 

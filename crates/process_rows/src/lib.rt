@@ -6,7 +6,7 @@ ghost use lib.ListN.{length};
 ghost use Rattle.template_entries.specs.Table.{entryWidth};
 ghost use Rattle.template_entries.specs.Rows.{membersOf};
 ghost use Rattle.process_steps.specs.Contracts.{EntryThere};
-ghost use Rattle.process_rows.specs.Contracts.{AskSteps, AskAt, WindowlessAt, RowsAt, stepRows, AddsRows};
+ghost use Rattle.process_rows.specs.Contracts.{AskSteps, AskAt, WindowlessAt, SecondRows, stepRows, AddsRows};
 use process_steps::Step;
 
 // Whether the encoding that begins at a place has no windows; where there is none, there are none.
@@ -23,7 +23,7 @@ pub fn is_windowless(nodes: &[u32], at: usize) -> bool
 // The rows of the encoding that begins at a place, those of its windows not counted; none where there is no encoding.
 pub fn rows_at(nodes: &[u32], at: usize) -> u32
     requires { ⌜ AskAt (now nodes) at ⌝ }
-    ensures { λ r. ⌜ RowsAt (now (nodes .entry)) at r ⌝ }
+    ensures { λ r. ⌜ SecondRows (now (nodes .entry)) at r ⌝ }
 {
     if at < nodes.len() {
         return nodes[at];

@@ -12,7 +12,7 @@ use Rattle.record.specs.WellFormed.{mostRows}
 use Rattle.join_trees.proofs.Sizes.{no-more-fits, join-no-less-right}
 use Rattle.join_levels.specs.declared.Profile.{Profile}
 use Rattle.join_levels.specs.declared.Answer.{Answer}
-use Rattle.join_levels.specs.Levels.{sum, weightAt, one, ProfileOf, Profiled}
+use Rattle.join_levels.specs.Levels.{sum, weightAt, countedOnce, ProfileOf, Profiled}
 use Rattle.join_table.specs.Table.{levelCount, at}
 use Rattle.join_levels.specs.Contracts.{SizesJoin}
 use Rattle.join_table.proofs.Passes.{zeros}
@@ -46,7 +46,7 @@ module _ (c : List Row → ℕ) (same : (v : View) (r : List Row) → c (rowsSee
 seen-profile : {E : Encoding} {p : Profile} (v : View) → ProfileOf E p → ProfileOf (seen v E) p
 seen-profile {E} v o = record {
   deep = o .deep ∙ sym (levels-seen (below v) (E .below));
-  nodes = λ d. o .nodes d ∙ sym (weight-seen one (λ v r. refl) d v E);
+  nodes = λ d. o .nodes d ∙ sym (weight-seen countedOnce (λ v r. refl) d v E);
   rows = λ d. o .rows d ∙ sym (weight-seen length length-rows-seen d v E);
 }
 
@@ -59,7 +59,7 @@ node-profile : (r : List Row) (q : List Range) (n : ℕ) → length r ≡ n → 
 unfolding weightAt
 node-profile r q n e = record { deep = refl; nodes = nodes-are; rows = rows-are }
   where
-    nodes-are : (d : ℕ) → at (set (replicate levelCount 0) 0 1) d ≡ weightAt one d (encoding r q [])
+    nodes-are : (d : ℕ) → at (set (replicate levelCount 0) 0 1) d ≡ weightAt countedOnce d (encoding r q [])
     nodes-are zero = refl
     nodes-are (suc d) = zeros levelCount (suc d)
 

@@ -36,7 +36,7 @@ abbrev pub MeasuresAlone : Profile → ℕ → Answer → Type 0
 MeasuresAlone so-far count r = (S P : Encoding) → ProfileOf S so-far → Alone P count → Measures (join false S P) r
 
 -- What was folded so far and the two encodings are within the limits, and the step's entry is one of the table.
-pub record AskStep (so-far : Profile) (entries : List ℕ) (step : Step) (first second : Profile) : Type 0 where
+pub record AskStepSize (so-far : Profile) (entries : List ℕ) (step : Step) (first second : Profile) : Type 0 where
   pub so-far-fits : Profiled so-far
   pub first-fits : Profiled first
   pub second-fits : Profiled second

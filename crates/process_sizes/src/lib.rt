@@ -1,7 +1,7 @@
 // What the result of a template's steps takes, known before it is built (document 01, refusal 2 of process).
 ghost use Rattle.join_levels.specs.Levels.{Profiled};
 ghost use Rattle.process_rows.specs.Contracts.{AskSteps, AskAt};
-ghost use Rattle.process_sizes.specs.Contracts.{SizesSteps, ProfileAt, ProfilesAlone, MeasuresAlone, AskStep, MeasuresStep, MeasuresSteps};
+ghost use Rattle.process_sizes.specs.Contracts.{SizesSteps, ProfileAt, ProfilesAlone, MeasuresAlone, AskStepSize, MeasuresStep, MeasuresSteps};
 use join_levels::Answer;
 use join_levels::Profile;
 use join_table::LEVELS;
@@ -55,7 +55,7 @@ fn with_step(
     first: Profile,
     second: Profile,
 ) -> Answer
-    requires { ⌜ AskStep «so_far» (now entries) step first second ⌝ }
+    requires { ⌜ AskStepSize «so_far» (now entries) step first second ⌝ }
     ensures { λ r. ⌜ MeasuresStep «so_far» (now (entries .entry)) step first second r ⌝ }
 {
     match step {

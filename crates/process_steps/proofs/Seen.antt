@@ -9,7 +9,7 @@ use Rattle.record.specs.Tree.{Forest, none, node, Encoding, listed, forest}
 use Rattle.record_write.specs.Writing.{presentRange}
 use Rattle.record_make.specs.Making.{setSequence, wholeRange}
 use Rattle.join_view.specs.declared.View.the-variants.{Window, Piece as PieceView}
-use Rattle.join_view.specs.View.{typed, allSeen, seen}
+use Rattle.join_view.specs.View.{typedRow, allSeen, seen}
 use Rattle.join_view.proofs.Seen.{all-plain}
 use Rattle.process_steps.specs.Applied.{ofSequence}
 
@@ -18,4 +18,4 @@ windows-seen i none = refl
 windows-seen i (node r q w x) = ap₂ (node r (set q i (presentRange 0 (length r)))) (all-plain w) (windows-seen i x)
 
 pub seen-piece : (i t : ℕ) (E : Encoding) → seen (PieceView i t) E ≡ ofSequence i t E
-seen-piece i t E = λ k. record { rows = map (typed t) (E .rows); ranges = sym (set-set (E .ranges) i (wholeRange E) (wholeRange E)) k; below = windows-seen i (E .below) k }
+seen-piece i t E = λ k. record { rows = map (typedRow t) (E .rows); ranges = sym (set-set (E .ranges) i (wholeRange E) (wholeRange E)) k; below = windows-seen i (E .below) k }

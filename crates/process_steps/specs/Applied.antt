@@ -14,7 +14,7 @@ use Rattle.template_entries.specs.Table.{Special}
 use Rattle.template_find.specs.Last.{lastWith}
 use Rattle.template_entries.specs.Rows.{specialEncoding}
 use Rattle.template_walk.specs.Sequences.{someOk, isB}
-use Rattle.join_view.specs.View.{typed}
+use Rattle.join_view.specs.View.{typedRow}
 
 -- "Encoding i gets sequence id i, and so do its first-level windows": set sequence of module 1, on each of them
 abbrev pub withSequence : ℕ → Encoding → Encoding
@@ -22,7 +22,7 @@ withSequence i E = setSequence i (encoding (E .rows) (E .ranges) (map (setSequen
 
 -- its own rows with a type
 abbrev pub withType : ℕ → Encoding → Encoding
-withType t E = record { rows = map (typed t) (E .rows); ranges = E .ranges; below = E .below }
+withType t E = record { rows = map (typedRow t) (E .rows); ranges = E .ranges; below = E .below }
 
 -- "each piece sets type and sequence on the top encoding only" (`seen-piece` of proofs/Seen: what the code looks through is
 -- this)

@@ -53,30 +53,30 @@ unfoldable pub test : Bool → Parsed → Parsed
 test true p = p
 test false p = bad
 
-unfoldable pub andThen : Parsed → (Forest → List ℕ → List ℕ → Parsed) → Parsed
-andThen bad k = bad
-andThen (good f ys zs) k = k f ys zs
+unfoldable pub thenParsed : Parsed → (Forest → List ℕ → List ℕ → Parsed) → Parsed
+thenParsed bad k = bad
+thenParsed (good f ys zs) k = k f ys zs
 
 -- one node, its windows by the first reading, then what comes after it by the second
-unfoldable pub one : List ℕ → List ℕ → (ℕ → List ℕ → List ℕ → Parsed) → (List ℕ → List ℕ → Parsed) → Parsed
-one xs rs windows after =
+unfoldable pub parsedNode : List ℕ → List ℕ → (ℕ → List ℕ → List ℕ → Parsed) → (List ℕ → List ℕ → Parsed) → Parsed
+parsedNode xs rs windows after =
     test (leb nodeWidth (length xs))
     (test (leb (getD xs 0 0 * rowWidth) (length rs))
-    (andThen (windows (getD xs 1 0) (drop nodeWidth xs) (drop (getD xs 0 0 * rowWidth) rs))
-    (λ w ys zs. andThen (after ys zs) (λ x ys′ zs′. good (nodeAt xs rs w x) ys′ zs′))))
+    (thenParsed (windows (getD xs 1 0) (drop nodeWidth xs) (drop (getD xs 0 0 * rowWidth) rs))
+    (λ w ys zs. thenParsed (after ys zs) (λ x ys′ zs′. good (nodeAt xs rs w x) ys′ zs′))))
 
 -- k encodings, in at most d steps
 unfoldable pub parse : ℕ → ℕ → List ℕ → List ℕ → Parsed
 parse zero k xs rs = bad
 parse (suc d) zero xs rs = good none xs rs
-parse (suc d) (suc k) xs rs = one xs rs (parse d) (parse d k)
+parse (suc d) (suc k) xs rs = parsedNode xs rs (parse d) (parse d k)
 
 -- encodings to the end of both lists
 unfoldable pub parseAll : ℕ → List ℕ → List ℕ → Parsed
 parseAll zero xs rs = bad
 parseAll (suc d) [] [] = good none [] []
 parseAll (suc d) [] (r ∷ rs) = bad
-parseAll (suc d) (a ∷ xs) rs = one (a ∷ xs) rs (parse d) (parseAll d)
+parseAll (suc d) (a ∷ xs) rs = parsedNode (a ∷ xs) rs (parse d) (parseAll d)
 
 -- ---- What two lists store
 

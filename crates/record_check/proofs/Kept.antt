@@ -9,7 +9,7 @@ use lib.ListN.{length, getD, set, drop, length-set}
 use borrow.Author.Count.{below-more}
 use Rattle.record.specs.Flat.{rowWidth, nodeWidth}
 use Rattle.record.specs.WellFormed.{mostLevels}
-use Rattle.record_fields.specs.Contracts.{NodeAt, NodeFits, NodesFine}
+use Rattle.record_fields.specs.Contracts.{RangesOk, NodeFits, NodesFine}
 use Rattle.record_check.specs.Contracts.{Passes}
 use Rattle.record_check.specs.declared.Shape.the-variants.{Malformed, Encodings}
 use Rattle.record_check.proofs.Passes.{Closes, Next}
@@ -20,16 +20,16 @@ use Rattle.record_check.proofs.Track.{Track, Nothing, stackOf, top-at, 
 pub record FineTo (nodes : List ℕ) (i : ℕ) : Type 0 where
   pub passed : ℕ
   pub place : i ≡ passed * nodeWidth
-  pub each : (k : ℕ) → k < passed → NodeAt nodes (k * nodeWidth)
+  pub each : (k : ℕ) → k < passed → RangesOk nodes (k * nodeWidth)
 
-fine-more : {nodes : List ℕ} {i : ℕ} → FineTo nodes i → NodeAt nodes i → FineTo nodes (i + nodeWidth)
-fine-more {nodes} f h = record { passed = f .passed + 1; place = omega arith; each = below-more _ _ (f .each) (subst (NodeAt nodes) (f .place) h) }
+fine-more : {nodes : List ℕ} {i : ℕ} → FineTo nodes i → RangesOk nodes i → FineTo nodes (i + nodeWidth)
+fine-more {nodes} f h = record { passed = f .passed + 1; place = omega arith; each = below-more _ _ (f .each) (subst (RangesOk nodes) (f .place) h) }
 
 fine-end : {nodes : List ℕ} {i : ℕ} → FineTo nodes i → i ≡ length nodes → NodesFine nodes
 fine-end f e k h = f .each k (omega arith)
 
-fine-at : {nodes : List ℕ} {i : ℕ} → FineTo nodes i → i + nodeWidth ≤ length nodes → NodesFine nodes → NodeAt nodes i
-fine-at {nodes} f l all = subst (NodeAt nodes) (sym (f .place)) (all (f .passed) (omega arith))
+fine-at : {nodes : List ℕ} {i : ℕ} → FineTo nodes i → i + nodeWidth ≤ length nodes → NodesFine nodes → RangesOk nodes i
+fine-at {nodes} f l all = subst (RangesOk nodes) (sym (f .place)) (all (f .passed) (omega arith))
 
 -- ---- The loop's invariant, and what holds once the next node is due
 

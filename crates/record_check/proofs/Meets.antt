@@ -17,7 +17,7 @@ use Rattle.record.specs.Walk.{allRows}
 use Rattle.record.proofs.Read.{found, stored}
 use Rattle.record.proofs.Walk.{flat-rows, row-number}
 use Rattle.record_check.specs.Contracts.{Good, Builds, Built, Passes}
-use Rattle.record_fields.specs.Contracts.{RangeOk, NodeAt, NodesFine, RowAt, RowsFine}
+use Rattle.record_fields.specs.Contracts.{RangeOk, RangesOk, NodesFine, RowAt, RowsFine}
 use Rattle.record_check.specs.Answers.{shapeOf}
 use Rattle.record_check.specs.declared.Shape.{Shape}
 use Rattle.record_check.specs.declared.Shape.the-variants.{Malformed, Encodings}
@@ -65,14 +65,14 @@ module _ (n m : ℕ) (q : List Range) (T : List ℕ) (places : length q ≡ sequ
   number : (k j i : ℕ) → k < sequences → j < 3 → i ≡ suc (suc (k * 3 + j)) → getD X i 0 ≡ getD (rangeNumbers (getD q k absent)) j 0
   number k j i h l e = rw e (several-at range-stored q T k j absent (omega arith) l)
 
-  ranges-forth : NodeAt X 0 → All (RangeFine n) q
+  ranges-forth : RangesOk X 0 → All (RangeFine n) q
   unfolding rangeNumbers
   ranges-forth h =
       all-places (RangeFine n) absent q
       (λ k l. let b : k < sequences = omega arith in
       range-forth n (getD q k absent) (range-same refl (number k 0 (0 + 2 + k * 3) b (omega arith) (omega arith)) (number k 1 (0 + 2 + k * 3 + 1) b (omega arith) (omega arith)) (number k 2 (0 + 2 + k * 3 + 2) b (omega arith) (omega arith)) (h k b)))
 
-  ranges-back : All (RangeFine n) q → NodeAt X 0
+  ranges-back : All (RangeFine n) q → RangesOk X 0
   unfolding rangeNumbers
   ranges-back u k b =
       range-same refl (sym (number k 0 (0 + 2 + k * 3) b (omega arith) (omega arith))) (sym (number k 1 (0 + 2 + k * 3 + 1) b (omega arith) (omega arith))) (sym (number k 2 (0 + 2 + k * 3 + 2) b (omega arith) (omega arith)))
@@ -85,11 +85,11 @@ module _ (n m : ℕ) (q : List Range) (T : List ℕ) (places : length q ≡ sequ
       let o : j ≡ suc (suc (length (flatMap rangeNumbers q) + i)) = omega arith in
       rw o (getD-append-add (flatMap rangeNumbers q) T i 0)
 
-  further-forth : (i j : ℕ) → j ≡ i + nodeWidth → NodeAt X j → NodeAt T i
+  further-forth : (i j : ℕ) → j ≡ i + nodeWidth → RangesOk X j → RangesOk T i
   further-forth i j e h k c =
       range-same (further i j e) (further (i + 2 + k * 3) (j + 2 + k * 3) (omega arith)) (further (i + 2 + k * 3 + 1) (j + 2 + k * 3 + 1) (omega arith)) (further (i + 2 + k * 3 + 2) (j + 2 + k * 3 + 2) (omega arith)) (h k c)
 
-  further-back : (i j : ℕ) → j ≡ i + nodeWidth → NodeAt T i → NodeAt X j
+  further-back : (i j : ℕ) → j ≡ i + nodeWidth → RangesOk T i → RangesOk X j
   further-back i j e h k c =
       range-same (sym (further i j e)) (sym (further (i + 2 + k * 3) (j + 2 + k * 3) (omega arith))) (sym (further (i + 2 + k * 3 + 1) (j + 2 + k * 3 + 1) (omega arith))) (sym (further (i + 2 + k * 3 + 2) (j + 2 + k * 3 + 2) (omega arith))) (h k c)
 
@@ -98,10 +98,10 @@ module _ (n m : ℕ) (q : List Range) (T : List ℕ) (places : length q ≡ sequ
       let l : length (flatMap rangeNumbers q) ≡ sequences * 3 = length-numbers range-stored q ∙ ap (λ (k : ℕ). k * 3) places in
       omega (arith, length-append (flatMap rangeNumbers q) T)
 
-  head-forth : NodesFine X → NodeAt X 0 × NodesFine T
+  head-forth : NodesFine X → RangesOk X 0 × NodesFine T
   head-forth h = (h 0 (omega (arith, long)), λ i b. further-forth (i * nodeWidth) (suc i * nodeWidth) (omega arith) (h (suc i) (omega (arith, long))))
 
-  head-back : NodeAt X 0 → NodesFine T → NodesFine X
+  head-back : RangesOk X 0 → NodesFine T → NodesFine X
   head-back a h zero b = a
   head-back a h (suc i) b = further-back (i * nodeWidth) (suc i * nodeWidth) (omega arith) (h i (omega (arith, long)))
 

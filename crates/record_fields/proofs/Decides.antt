@@ -1,7 +1,7 @@
 -- What a test's answer shows of the fact that it decides. Assumes nothing.
 use mathlib.Core.Path.{_≡_, subst}
 use mathlib.Core.Bool.{Bool, true, false}
-use Rattle.record_fields.specs.Contracts.{Decides}
+use Rattle.lists.specs.Lists.{Decides}
 
 pub decided : (b : Bool) (P : Type 0) → b ≡ true → Decides b P → P
 decided b P e h = subst (λ (b : Bool). Decides b P) e h

@@ -13,7 +13,8 @@ use lib.Bits.{bitOr, or-lt, or-add-and, and-le-l, and-le-r}
 use lib.Dec.{leb}
 use lib.ListN.{length, getD}
 use Rattle.record.specs.Flat.{rowWidth}
-use Rattle.record_fields.specs.Contracts.{RowOk, RowAt, RowsFine, Unmarked, Decides}
+use Rattle.lists.specs.Lists.{Decides}
+use Rattle.record_fields.specs.Contracts.{RowOk, RowAt, RowsFine, Unmarked}
 
 both-none : (a b : ℕ) → a ≡ 0 → b ≡ 0 → bitOr a b ≡ 0
 both-none a b p q = omega (arith, or-add-and a b)

@@ -2,7 +2,6 @@
 -- Assumes nothing: these are definitions.
 use mathlib.Core.Path.{_≡_}
 use mathlib.Core.Logic.{_⊎_}
-use mathlib.Core.Bool.{Bool, true, false}
 use Prim.Native.Nat.{ℕ, _+_, _-_, _*_, _≤_, _<_}
 use mathlib.Core.List.{List}
 use lib.ListN.{length, getD}
@@ -14,17 +13,17 @@ abbrev pub RangeOk : ℕ → ℕ → ℕ → ℕ → Type 0
 RangeOk n m s e = ((m ≡ 0) × (s ≡ 0) × (e ≡ 0)) ⊎ ((m ≡ 1) × (s ≤ e) × (e ≤ n))
 
 -- the ranges of the node at i
-abbrev pub NodeAt : List ℕ → ℕ → Type 0
-NodeAt xs i = (k : ℕ) → k < sequences → RangeOk (getD xs i 0) (getD xs (i + 2 + k * 3) 0) (getD xs (i + 2 + k * 3 + 1) 0) (getD xs (i + 2 + k * 3 + 2) 0)
+abbrev pub RangesOk : List ℕ → ℕ → Type 0
+RangesOk xs i = (k : ℕ) → k < sequences → RangeOk (getD xs i 0) (getD xs (i + 2 + k * 3) 0) (getD xs (i + 2 + k * 3 + 1) 0) (getD xs (i + 2 + k * 3 + 2) 0)
 
 -- a whole node stands at i, its ranges are fine, and its rows take no more than `room` numbers
 pub record NodeFits (nodes : List ℕ) (i room : ℕ) : Type 0 where
   pub whole : nodeWidth ≤ length nodes - i
   pub rows : getD nodes i 0 * rowWidth ≤ room
-  pub fine : NodeAt nodes i
+  pub fine : RangesOk nodes i
 
 abbrev pub NodesFine : List ℕ → Type 0
-NodesFine xs = (i : ℕ) → i * nodeWidth + nodeWidth ≤ length xs → NodeAt xs (i * nodeWidth)
+NodesFine xs = (i : ℕ) → i * nodeWidth + nodeWidth ≤ length xs → RangesOk xs (i * nodeWidth)
 
 -- the pool is 0 or 1, and so is the word mark, with word 0 where it is 0
 abbrev pub RowOk : ℕ → ℕ → ℕ → Type 0
@@ -40,7 +39,3 @@ RowAt rs j = RowOk (getD rs (j + 2) 0) (getD rs (j + 5) 0) (getD rs (j + 6) 0)
 
 abbrev pub RowsFine : List ℕ → Type 0
 RowsFine rs = (i : ℕ) → i * rowWidth + rowWidth ≤ length rs → RowAt rs (i * rowWidth)
-
-abbrev pub Decides : Bool → Type 0 → Type 0
-Decides true P = P
-Decides false P = P → ⊥

@@ -3,7 +3,8 @@
 ghost use Prim.Native.Nat.{_+_, _≤_};
 ghost use lib.ListN.{length};
 ghost use Rattle.record.specs.Flat.{nodeWidth};
-ghost use Rattle.record_fields.specs.Contracts.{RangeOk, NodeAt, NodeFits, Unmarked, RowsFine, Decides};
+ghost use Rattle.lists.specs.Lists.{Decides};
+ghost use Rattle.record_fields.specs.Contracts.{RangeOk, RangesOk, NodeFits, Unmarked, RowsFine};
 use record::Column;
 use record::Encoding;
 
@@ -46,7 +47,7 @@ fn range_ok(n: u32, mark: u32, start: u32, end: u32) -> bool
 // The ranges of the node at i.
 fn node_ok(nodes: &[u32], i: usize) -> bool
     requires { ⌜ i + nodeWidth ≤ length (now nodes) ⌝ }
-    ensures { λ r. ⌜ Decides r (NodeAt (now (nodes .entry)) i) ⌝ }
+    ensures { λ r. ⌜ Decides r (RangesOk (now (nodes .entry)) i) ⌝ }
 {
     let mut k: usize = 0;
     while k < Encoding::SEQUENCES {

@@ -7,7 +7,8 @@ use lib.ListN.{length, getD, take, drop, length-drop}
 use lib.Seq.{drop-cons, take-all}
 use native.Mathlib.Numerals.{add-one}
 use native.Mathlib.Omega.{arith}
-use Rattle.replay_answers.specs.Contracts.{Decides, Told, comparison}
+use Rattle.lists.specs.Lists.{Decides}
+use Rattle.replay_answers.specs.Contracts.{Told, comparison}
 use Rattle.replay_answers.specs.declared.Outcome.the-variants.{Differs}
 
 module _ (refusal : ℕ) (lent case : List ℕ) (at : ℕ) (long : length case ≡ at + length (refusal ∷ lent)) where

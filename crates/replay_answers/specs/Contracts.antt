@@ -8,11 +8,6 @@ use lib.ListN.{length, drop}
 use Rattle.replay_answers.specs.declared.Outcome.{Outcome}
 use Rattle.replay_answers.specs.declared.Outcome.the-variants.{Skipped, Same, Differs, Bad}
 
--- a test that says exactly whether something holds
-abbrev pub Decides : Bool → Type 0 → Type 0
-Decides true P = P
-Decides false P = P → ⊥
-
 -- the outcome of a case whose answers are the same, or not
 abbrev pub comparison : Bool → Outcome
 comparison true = Same

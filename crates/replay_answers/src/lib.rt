@@ -2,7 +2,8 @@
 ghost use mathlib.Core.List.{_∷_};
 ghost use mathlib.Core.Path.{_≡_};
 ghost use lib.ListN.{length, take};
-ghost use Rattle.replay_answers.specs.Contracts.{Decides, Told, comparison};
+ghost use Rattle.lists.specs.Lists.{Decides};
+ghost use Rattle.replay_answers.specs.Contracts.{Told, comparison};
 
 // Whether two lists are the same.
 pub fn equal(a: &[u32], b: &[u32]) -> bool

@@ -34,6 +34,6 @@ pub record BytesAt (case : List ℕ) (at : ℕ) (r : Part) (stored : List ℕ) :
 pub record TextHeld (r : Text) (bytes : List ℕ) : Type 0 where
   pub held : Within (r .count) bytes
 
-pub record Held (r : Texts) (first second : List ℕ) : Type 0 where
+pub record TextsHeld (r : Texts) (first second : List ℕ) : Type 0 where
   pub first-held : Within (r .first) first
   pub second-held : Within (r .second) second

@@ -1,7 +1,7 @@
 // Lists of a case as bytes: the texts that operations are lent, and comparing one with a list.
 ghost use mathlib.Core.Path.{_≡_};
-ghost use Rattle.replay_answers.specs.Contracts.{Decides};
-ghost use Rattle.replay_bytes.specs.Contracts.{PutBytes, BytesAt, TextHeld, Held};
+ghost use Rattle.lists.specs.Lists.{Decides};
+ghost use Rattle.replay_bytes.specs.Contracts.{PutBytes, BytesAt, TextHeld, TextsHeld};
 use replay_cases::Part;
 
 // Whether bytes are the same as the numbers of a list.
@@ -95,7 +95,7 @@ pub struct Texts {
 // The two texts at a place, put at the start of what is lent for them. Where there are none, the place after them is the end
 // of the case, so that no answer follows.
 pub fn texts_at(case: &[u32], at: usize, first: &mut [u8], second: &mut [u8]) -> Texts
-    ensures { λ r. ⌜ Held r (now (first .exit)) (now (second .exit)) ⌝ }
+    ensures { λ r. ⌜ TextsHeld r (now (first .exit)) (now (second .exit)) ⌝ }
 {
     let first_list = bytes_at(case, at, first);
     let second_list = bytes_at(case, first_list.end, second);

@@ -11,8 +11,8 @@ use native.Mathlib.Omega.{arith}
 use Rattle.lines.specs.Decimal.{numberAt}
 use Rattle.lines.specs.declared.Number.the-variants.{Bad, Read}
 use Rattle.lines.proofs.Moves.{number-moves}
-use Rattle.replay_cases.specs.Case.{Case, unreadable, numbers, space, led, rest, caseFrom, caseOf, fitted}
-use Rattle.replay_cases.specs.Contracts.{Gathered}
+use Rattle.replay_cases.specs.Case.{Case, unreadable, numbers, space, ledCase, rest, caseFrom, caseOf, fitted}
+use Rattle.replay_cases.specs.Contracts.{GatheredCase}
 
 -- the numbers so far, and then those of a case
 abbrev pub joined : List ℕ → Case → Case
@@ -23,7 +23,7 @@ joined-none : (c : Case) → c ≡ joined [] c
 joined-none unreadable = refl
 joined-none (numbers ms) = refl
 
-joined-led : (ns : List ℕ) (v : ℕ) (c : Case) → joined ns (led v c) ≡ joined (ns ++ (v ∷ [])) c
+joined-led : (ns : List ℕ) (v : ℕ) (c : Case) → joined ns (ledCase v c) ≡ joined (ns ++ (v ∷ [])) c
 joined-led ns v unreadable = refl
 joined-led ns v (numbers ms) = ap numbers (sym (append-snoc ns v ms))
 
@@ -48,7 +48,7 @@ start line stored =
     }
 
 pub refused : (line : List ℕ) (room : ℕ) (stored : List ℕ) → unreadable ≡ fitted room (caseOf line)
-    → Gathered line room (record { good = false; count = 0 }) stored
+    → GatheredCase line room (record { good = false; count = 0 }) stored
 refused line room stored none = record { exact = none; counts = omega arith; whole = refl }
 
 from-bad : (line : List ℕ) (at most : ℕ) → numberAt line at ≡ Bad → caseFrom most line at ≡ unreadable
@@ -57,17 +57,17 @@ from-bad line at zero e = refl
 from-bad line at (suc most) e = rw e
 
 from-some : (line : List ℕ) (at most v next : ℕ) → numberAt line at ≡ Read v next
-    → caseFrom (suc most) line at ≡ led v (rest line next (caseFrom most line))
+    → caseFrom (suc most) line at ≡ ledCase v (rest line next (caseFrom most line))
 unfolding caseFrom
 from-some line at most v next e = rw e
 
 from-read : (line : List ℕ) (at most v next : ℕ) → 0 < most → numberAt line at ≡ Read v next
-    → caseFrom most line at ≡ led v (rest line next (caseFrom (most - 1) line))
+    → caseFrom most line at ≡ ledCase v (rest line next (caseFrom (most - 1) line))
 from-read line at most v next some e =
     let z : most ≡ suc (most - 1) = omega arith in
     ap (λ (k : ℕ). caseFrom k line at) z ∙ from-some line at (most - 1) v next e
 
-too-full : (ns : List ℕ) (v : ℕ) (c : Case) → unreadable ≡ fitted (length ns) (joined ns (led v c))
+too-full : (ns : List ℕ) (v : ℕ) (c : Case) → unreadable ≡ fitted (length ns) (joined ns (ledCase v c))
 too-full ns v unreadable = refl
 too-full ns v (numbers ms) =
     let longer : length ns < length (ns ++ (v ∷ ms)) = simp length-append (omega arith) in
@@ -79,7 +79,7 @@ module _ (line : List ℕ) (room : ℕ) (stored : List ℕ) (at count : ℕ) (g 
 
   -- A number was read.
   module _ (v next : ℕ) (e : numberAt line at ≡ Read v next) where
-    read : caseOf line ≡ joined (take count stored) (led v (rest line next (caseFrom (g .most - 1) line)))
+    read : caseOf line ≡ joined (take count stored) (ledCase v (rest line next (caseFrom (g .most - 1) line)))
     read = g .whole ∙ ap (joined (take count stored)) (from-read line at (g .most) v next (omega (arith, g .enough, g .place)) e)
 
     pub ends-full : count ≡ length stored → unreadable ≡ fitted room (caseOf line)
@@ -98,7 +98,7 @@ module _ (line : List ℕ) (room : ℕ) (stored : List ℕ) (at count : ℕ) (g 
       with-it : caseOf line ≡ joined (take (count + 1) (set stored count v)) (rest line next (caseFrom (g .most - 1) line))
       with-it = read ∙ joined-led (take count stored) v (rest line next (caseFrom (g .most - 1) line)) ∙ rw kept
 
-      pub ends-good : length line ≤ next → Gathered line room (record { good = true; count = count + 1 }) (set stored count v)
+      pub ends-good : length line ≤ next → GatheredCase line room (record { good = true; count = count + 1 }) (set stored count v)
       ends-good end =
           let fits : length (take (count + 1) (set stored count v)) ≤ room = omega (arith, length-kept, g .same) in
           record {

@@ -25,9 +25,9 @@ pickCase true a b = a
 pickCase false a b = b
 
 -- a number, and then those of a case
-abbrev pub led : ℕ → Case → Case
-led n unreadable = unreadable
-led n (numbers ns) = numbers (n ∷ ns)
+abbrev pub ledCase : ℕ → Case → Case
+ledCase n unreadable = unreadable
+ledCase n (numbers ns) = numbers (n ∷ ns)
 
 -- what follows a number: nothing at the line's end, or a space and the case after it
 abbrev pub rest : List ℕ → ℕ → (ℕ → Case) → Case
@@ -37,7 +37,7 @@ rest line next case =
 
 abbrev pub from : List ℕ → Number → (ℕ → Case) → Case
 from line Bad case = unreadable
-from line (Read value next) case = led value (rest line next case)
+from line (Read value next) case = ledCase value (rest line next case)
 
 -- the case that starts at a place, of at most so many numbers
 unfoldable pub caseFrom : ℕ → List ℕ → ℕ → Case
@@ -54,8 +54,8 @@ fitted room unreadable = unreadable
 fitted room (numbers ns) = pickCase (leb (length ns) room) (numbers ns) unreadable
 
 -- the case that an answer and the numbers beside it stand for
-abbrev pub answered : Numbers → List ℕ → Case
-answered r stored = pickCase (r .good) (numbers (take (r .count) stored)) unreadable
+abbrev pub answeredCase : Numbers → List ℕ → Case
+answeredCase r stored = pickCase (r .good) (numbers (take (r .count) stored)) unreadable
 
 abbrev pub pickPart : Bool → Part → Part → Part
 pickPart true a b = a

@@ -4,13 +4,13 @@ use Prim.Native.Nat.{ℕ, _≤_}
 use mathlib.Core.Path.{_≡_}
 use mathlib.Core.List.{List}
 use lib.ListN.{length, take}
-use Rattle.replay_cases.specs.Case.{answered, fitted, caseOf, partAt, lastAt}
+use Rattle.replay_cases.specs.Case.{answeredCase, fitted, caseOf, partAt, lastAt}
 use Rattle.replay_cases.specs.declared.Numbers.{Numbers}
 use Rattle.replay_cases.specs.declared.Part.{Part}
 
 -- What reading a line into so much room promises. `counts` and `whole` are stated so that `&numbers[..count]` needs no proof.
-pub record Gathered (line : List ℕ) (room : ℕ) (r : Numbers) (stored : List ℕ) : Type 0 where
-  pub exact : answered r stored ≡ fitted room (caseOf line)
+pub record GatheredCase (line : List ℕ) (room : ℕ) (r : Numbers) (stored : List ℕ) : Type 0 where
+  pub exact : answeredCase r stored ≡ fitted room (caseOf line)
   pub counts : r .count ≤ length stored
   pub whole : r .count ≡ length (take (r .count) stored)
 

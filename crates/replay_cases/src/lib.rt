@@ -4,7 +4,7 @@
 ghost use mathlib.Core.Path.{_≡_};
 ghost use lib.ListN.{length, getD};
 ghost use Rattle.replay_cases.specs.Case.{noList};
-ghost use Rattle.replay_cases.specs.Contracts.{Gathered, PartAt, LastAt};
+ghost use Rattle.replay_cases.specs.Contracts.{GatheredCase, PartAt, LastAt};
 use lines::Number;
 
 const SPACE: u8 = b' ';
@@ -18,7 +18,7 @@ pub struct Numbers {
 // Puts the numbers of a line at the start of `numbers`. A line with more of them than there is room for cannot be read.
 // What stands past the count afterwards is left open.
 pub fn read_numbers(line: &[u8], numbers: &mut [u32]) -> Numbers
-    ensures { λ r. ⌜ Gathered (now (line .entry)) (length (now (numbers .entry))) r (now (numbers .exit)) ⌝ }
+    ensures { λ r. ⌜ GatheredCase (now (line .entry)) (length (now (numbers .entry))) r (now (numbers .exit)) ⌝ }
 {
     let mut at: usize = 0;
     let mut count: usize = 0;

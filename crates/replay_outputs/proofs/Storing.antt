@@ -5,7 +5,8 @@ use Prim.Native.Nat.{ℕ}
 use native.Mathlib.Omega.{arith}
 use mathlib.Core.List.{List}
 use lib.ListN.{length, take}
-use Rattle.replay_answers.specs.Contracts.{Decides, comparison}
+use Rattle.lists.specs.Lists.{Decides}
+use Rattle.replay_answers.specs.Contracts.{comparison}
 use Rattle.replay_answers.specs.declared.Outcome.{Outcome}
 use Rattle.replay_answers.specs.declared.Outcome.the-variants.{Same, Differs, Bad}
 use Rattle.replay_cases.specs.Case.{partAt, lastAt}

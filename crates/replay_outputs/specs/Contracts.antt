@@ -14,7 +14,7 @@ pub record LengthAt (case : List ℕ) (at : ℕ) (lent : List ℕ) (r : ℕ) : T
   pub held : Within r lent
 
 -- the answers begin with the refusal and the counts
-pub record Told (refusal : ℕ) (counts answers : List ℕ) : Type 0 where
+pub record ToldFirst (refusal : ℕ) (counts answers : List ℕ) : Type 0 where
   pub refused : getD answers 0 0 ≡ refusal
   pub node-count : getD answers 1 0 ≡ getD counts 0 0
   pub row-count : getD answers 2 0 ≡ getD counts 1 0
@@ -27,8 +27,8 @@ between start end l = take (end - start) (drop start l)
 abbrev pub listAt : List ℕ → ℕ → List ℕ
 listAt answers at = between (partAt answers at .start) (partAt answers at .end) answers
 
-abbrev pub lastFrom : List ℕ → ℕ → List ℕ
-lastFrom answers at = between (lastAt answers at .start) (length answers) answers
+abbrev pub lastListAt : List ℕ → ℕ → List ℕ
+lastListAt answers at = between (lastAt answers at .start) (length answers) answers
 
 -- two lists end the answers
 abbrev pub Ends : List ℕ → Type 0
@@ -38,11 +38,11 @@ Ends answers = lastAt answers (partAt answers 3 .end) .fits ≡ true
 pub record Left (nodes rows answers : List ℕ) : Type 0 where
   pub ends : Ends answers
   pub first : take (length (listAt answers 3)) nodes ≡ listAt answers 3
-  pub last : take (length (lastFrom answers (partAt answers 3 .end))) rows ≡ lastFrom answers (partAt answers 3 .end)
+  pub last : take (length (lastListAt answers (partAt answers 3 .end))) rows ≡ lastListAt answers (partAt answers 3 .end)
 
 -- what an operation gave and left is what is stored
 pub record Stored (refusal : ℕ) (counts nodes rows answers : List ℕ) : Type 0 where
-  pub told : Told refusal counts answers
+  pub told : ToldFirst refusal counts answers
   pub left : Left nodes rows answers
 
 -- the refusal is answered of a working store only if each of its numbers is this one

@@ -6,9 +6,9 @@
 ghost use mathlib.Core.Bool.{true};
 ghost use mathlib.Core.Path.{_≡_};
 ghost use lib.ListN.{replicate};
-ghost use Rattle.replay_answers.specs.Contracts.{Decides};
+ghost use Rattle.lists.specs.Lists.{Decides};
 ghost use Rattle.replay_cases.specs.Case.{partAt};
-ghost use Rattle.replay_outputs.specs.Contracts.{LengthAt, Told, Left, Stored, Ends, LeftAs};
+ghost use Rattle.replay_outputs.specs.Contracts.{LengthAt, ToldFirst, Left, Stored, Ends, LeftAs};
 use replay_answers::Outcome;
 
 // The most numbers of a list of an output.
@@ -76,7 +76,7 @@ pub fn answered_whole(
 
 // Whether the answers begin with the refusal and the counts.
 fn told(refusal: u32, counts: &[usize; 2], answers: &[u32]) -> bool
-    ensures { λ r. ⌜ (r ≡ true → Told refusal (now (counts .entry)) (now (answers .entry))) ⌝ }
+    ensures { λ r. ⌜ (r ≡ true → ToldFirst refusal (now (counts .entry)) (now (answers .entry))) ⌝ }
 {
     if replay_cases::number_at(answers, 0) != refusal {
         return false;

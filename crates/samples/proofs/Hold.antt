@@ -19,10 +19,10 @@ use Rattle.join_trees.specs.Samples.{lettered, letter, sampleS, sampleP, sample
 use Rattle.lines.specs.Decimal.{decimalAfter}
 use Rattle.template_parts.specs.Split.{split}
 use Rattle.template_numbers.specs.Number.{afterSign, readNumber}
-use Rattle.template_pieces.specs.Piece.{same, sequenceOf, named, withType, readPart}
+use Rattle.template_pieces.specs.Piece.{same, sequenceOf, named, pieceTyped, readPart}
 use Rattle.template_text.specs.Template.{readParts, readTemplate}
 use Rattle.samples.specs.Samples.{samples, Holds}
 
 pub hold : All Holds samples
-unfolding flatMap windowsOf rightFrom leftFrom keptBoth truncated cutOutcome inRoom fitsOk flatNodes flatRows rowNumbers rangeNumbers join withEach eachWith lettered letter sampleS sampleP sampleQ spelled spelledWindows firstFrom lastFrom until sequenceRange present nSequences tokenToSequence sequenceAt column getSequenceIds wordRows wordToTokens split decimalAfter afterSign readNumber same sequenceOf named withType readPart readParts readTemplate
+unfolding flatMap windowsOf rightFrom leftFrom keptBoth truncated cutOutcome inRoom fitsOk flatNodes flatRows rowNumbers rangeNumbers join withEach eachWith lettered letter sampleS sampleP sampleQ spelled spelledWindows firstFrom lastFrom until sequenceRange present nSequences tokenToSequence sequenceAt column getSequenceIds wordRows wordToTokens split decimalAfter afterSign readNumber same sequenceOf named pieceTyped readPart readParts readTemplate
 hold = (refl, (refl, (refl, (refl, (refl, (refl, (refl, (refl, (refl, (refl, (refl, (refl, (refl, (refl, (refl, (refl, (refl, (refl, (refl, (refl, (refl, (refl, (refl, (refl, (refl, (refl, (refl, tt)))))))))))))))))))))))))))

@@ -16,7 +16,7 @@ use Rattle.record.specs.WellFormed.{nodesIn}
 use Rattle.record.specs.Refusals.{numberOf}
 use Rattle.record.specs.Outcome.{Outcome, refused, done}
 use Rattle.cut_plan.specs.Cut.{windowsOf}
-use Rattle.cut_lengths.specs.Lengths.{keptLengths, keptRefusal, firstOf, secondOf}
+use Rattle.cut_lengths.specs.Lengths.{keptLengths, keptRefusal, firstKept, secondKept}
 use Rattle.cut_plan.specs.declared.Direction.the-variants.{Left, Right}
 use Rattle.cut_lengths.specs.declared.Strategy.the-variants.{LongestFirst}
 use Rattle.cut_lengths.specs.declared.Second.the-variants.{Rows}
@@ -69,8 +69,8 @@ numbers (some n) = n ∷ []
 
 -- the letters of an encoding's direct windows, a 0 before each: S, P, Q are 1, 2, 3 and their windows c, d, e (in the
 -- first sample s, p) 11, 12, 13
-abbrev pub spelled : Encoding → List ℕ
-spelled E = flatMap (λ (w : List ℕ). 0 ∷ w) (spelledWindows E)
+abbrev pub spelledOut : Encoding → List ℕ
+spelledOut E = flatMap (λ (w : List ℕ). 0 ∷ w) (spelledWindows E)
 
 -- the first row of each window and the row after its last
 abbrev pub stretches : List Stretch → List ℕ
@@ -91,7 +91,7 @@ flat f = flatNodes f ++ flatRows f
 
 -- the rows kept of a pair
 abbrev pub keptNumbers : Kept → List ℕ
-keptNumbers k = keptRefusal k ∷ firstOf k ∷ secondOf k ∷ []
+keptNumbers k = keptRefusal k ∷ firstKept k ∷ secondKept k ∷ []
 
 -- ---- The list
 
@@ -109,13 +109,13 @@ lookupSamples =
 abbrev pub joinSamples : Bool → List Sample
 joinSamples growing =
     -- "S with window s, P with window p: windows sP, sp, Sp, six nodes in all."
-    sample (spelled (join growing sampleS sampleP)) (0 ∷ 11 ∷ 2 ∷ 0 ∷ 11 ∷ 12 ∷ 0 ∷ 1 ∷ 12 ∷ [])
+    sample (spelledOut (join growing sampleS sampleP)) (0 ∷ 11 ∷ 2 ∷ 0 ∷ 11 ∷ 12 ∷ 0 ∷ 1 ∷ 12 ∷ [])
     ∷ sample (nodesIn (forest (join growing sampleS sampleP ∷ [])) ∷ []) (6 ∷ [])
     -- "One window each, c, d, e, of S, P, Q. S with P first: cPQ, cPe, cdQ, cde, SdQ, Sde, SPe."
-    ∷ sample (spelled (join growing (join growing sampleS sampleP) sampleQ))
+    ∷ sample (spelledOut (join growing (join growing sampleS sampleP) sampleQ))
     (0 ∷ 11 ∷ 2 ∷ 3 ∷ 0 ∷ 11 ∷ 2 ∷ 13 ∷ 0 ∷ 11 ∷ 12 ∷ 3 ∷ 0 ∷ 11 ∷ 12 ∷ 13 ∷ 0 ∷ 1 ∷ 12 ∷ 3 ∷ 0 ∷ 1 ∷ 12 ∷ 13 ∷ 0 ∷ 1 ∷ 2 ∷ 13 ∷ [])
     -- "P with Q first: cPQ, cdQ, cde, cPe, SdQ, Sde, SPe."
-    ∷ sample (spelled (join growing sampleS (join growing sampleP sampleQ)))
+    ∷ sample (spelledOut (join growing sampleS (join growing sampleP sampleQ)))
     (0 ∷ 11 ∷ 2 ∷ 3 ∷ 0 ∷ 11 ∷ 12 ∷ 3 ∷ 0 ∷ 11 ∷ 12 ∷ 13 ∷ 0 ∷ 11 ∷ 2 ∷ 13 ∷ 0 ∷ 1 ∷ 12 ∷ 3 ∷ 0 ∷ 1 ∷ 12 ∷ 13 ∷ 0 ∷ 1 ∷ 2 ∷ 13 ∷ [])
     ∷ []
 

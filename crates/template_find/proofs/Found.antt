@@ -11,7 +11,7 @@ use Rattle.lists.specs.Lists.{All}
 use Rattle.lookup_ranges.specs.First.{lastFrom, orElse}
 use Rattle.lookup_ranges.proofs.First.{last-found, last-nothing}
 use Rattle.template_entries.specs.Table.{Entry, Special, entryWidth, memberWidth, noEntry, entriesIn, membersIn, specialOf}
-use Rattle.template_find.specs.Contracts.{entryHasId, foundAnswer, IdsInside}
+use Rattle.template_find.specs.Contracts.{entryHasId, entryAnswer, IdsInside}
 use Rattle.template_find.specs.Last.{noSpecial, atPlace, hasId, lastWith}
 use Rattle.template_find.specs.declared.FoundEntry.the-variants.{Unknown, At}
 use Rattle.template_entries.proofs.Entries.{entries-number}
@@ -28,17 +28,17 @@ map-nth f [] k d e h = absurd (omega arith)
 map-nth f (x ∷ xs) zero d e h = refl
 map-nth f (x ∷ xs) (suc k) d e h = map-nth f xs k d e (omega arith)
 
-found-place : (o : Option ℕ) {k : ℕ} → foundAnswer o ≡ At k → o ≡ some k
-unfolding foundAnswer
+found-place : (o : Option ℕ) {k : ℕ} → entryAnswer o ≡ At k → o ≡ some k
+unfolding entryAnswer
 found-place nothing e = cc
 found-place (some n) e = cc
 
-found-none : (o : Option ℕ) → foundAnswer o ≡ Unknown → o ≡ nothing
-unfolding foundAnswer
+found-none : (o : Option ℕ) → entryAnswer o ≡ Unknown → o ≡ nothing
+unfolding entryAnswer
 found-none nothing e = refl
 found-none (some n) e = cc
 
-module _ (entries added id : List ℕ) {k : ℕ} (e : foundAnswer (lastFrom (entryHasId added id) 0 (entriesIn entries)) ≡ At k) where
+module _ (entries added id : List ℕ) {k : ℕ} (e : entryAnswer (lastFrom (entryHasId added id) 0 (entriesIn entries)) ≡ At k) where
   found-at : lastFrom (entryHasId added id) 0 (entriesIn entries) ≡ some k
   found-at = found-place (lastFrom (entryHasId added id) 0 (entriesIn entries)) e
 
@@ -63,7 +63,7 @@ module _ {entries members added : List ℕ} {table : List Special} (h : TableHol
   unfolding lastWith
   missing id e = ap (atPlace table) (search-is id ∙ e)
 
-  pub unknown-is : (id : List ℕ) → foundAnswer (lastFrom (entryHasId added id) 0 (entriesIn entries)) ≡ Unknown → lastWith id table ≡ nothing
+  pub unknown-is : (id : List ℕ) → entryAnswer (lastFrom (entryHasId added id) 0 (entriesIn entries)) ≡ Unknown → lastWith id table ≡ nothing
   unknown-is id e = missing id (found-none (lastFrom (entryHasId added id) 0 (entriesIn entries)) e)
 
   -- some entry has the id
@@ -82,7 +82,7 @@ module _ {entries members added : List ℕ} {table : List Special} (h : TableHol
   abbrev pub specialAt : ℕ → Special
   specialAt k = specialOf (membersIn members) added (getD (entriesIn entries) k noEntry)
 
-  module _ (id : List ℕ) {k : ℕ} (e : foundAnswer (lastFrom (entryHasId added id) 0 (entriesIn entries)) ≡ At k) where
+  module _ (id : List ℕ) {k : ℕ} (e : entryAnswer (lastFrom (entryHasId added id) 0 (entriesIn entries)) ≡ At k) where
     pub found-is : lastWith id table ≡ some (specialAt k)
     unfolding lastWith
     found-is =

@@ -15,9 +15,9 @@ use Rattle.template_find.specs.declared.FoundEntry.the-variants.{Unknown
 abbrev pub entryHasId : List ℕ → List ℕ → Entry → Bool
 entryHasId added id e = same (idOf added e) id
 
-unfoldable pub foundAnswer : Option ℕ → FoundEntry
-foundAnswer nothing = Unknown
-foundAnswer (some k) = At k
+unfoldable pub entryAnswer : Option ℕ → FoundEntry
+entryAnswer nothing = Unknown
+entryAnswer (some k) = At k
 
 -- Ids that lie in pool 1: what a table that is not refused has.
 pub record IdsInside (entries added : List ℕ) : Type 0 where

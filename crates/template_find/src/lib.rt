@@ -3,7 +3,7 @@ ghost use mathlib.Core.Path.{_≡_};
 ghost use lib.ListN.{getD};
 ghost use Rattle.lookup_ranges.specs.First.{lastFrom};
 ghost use Rattle.template_entries.specs.Table.{noEntry, entriesIn};
-ghost use Rattle.template_find.specs.Contracts.{entryHasId, foundAnswer, IdsInside, EntryAmong};
+ghost use Rattle.template_find.specs.Contracts.{entryHasId, entryAnswer, IdsInside, EntryAmong};
 ghost use Rattle.template_pieces.specs.Piece.{same};
 use template_entries::Entry;
 
@@ -16,7 +16,7 @@ pub enum FoundEntry {
 // The entry of an id: of equal ids the last counts.
 pub fn find(entries: &[u32], added: &[u8], id: &[u8]) -> FoundEntry
     requires { ⌜ IdsInside (now entries) (now added) ⌝ }
-    ensures { λ r. ⌜ r ≡ foundAnswer (lastFrom (entryHasId (now (added .entry)) (now (id .entry))) 0
+    ensures { λ r. ⌜ r ≡ entryAnswer (lastFrom (entryHasId (now (added .entry)) (now (id .entry))) 0
         (entriesIn (now (entries .entry)))) ⌝ }
 {
     let mut i = entries.len() / Entry::WIDTH;

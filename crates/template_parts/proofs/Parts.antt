@@ -12,7 +12,7 @@ use lib.ListN.{length, getD, take, drop, length-drop, drop-of-length-le}
 use lib.Seq.{drop-cons, drop-drop, length-take-le}
 use borrow.Author.Tests.{leb-true, leb-false, le-leb, lt-leb, eq-eqb, ne-eqb}
 use Rattle.template_parts.specs.Split.{split}
-use Rattle.template_parts.specs.Parts.{space, parts, partsFrom, firstOf, stepAt, lengthTo}
+use Rattle.template_parts.specs.Parts.{space, parts, partsFrom, firstOf, partStepAt, lengthTo}
 use Rattle.template_parts.specs.Contracts.{FoundFrom}
 use Rattle.template_parts.specs.declared.PartAnswer.the-variants.{Part, End}
 use Rattle.template_parts.specs.declared.PartStep.{PartStep}
@@ -52,7 +52,7 @@ module _ (text : List ℕ) (at : ℕ) where
     parts-first = rw (le-leb at (length text) h, split-first space (drop at text), drop-drop) (ap (_∷_ (take size (drop at text))) (rest text (at + size)))
 
     -- the part that ends at the first space from a place on, and the place after it
-    pub step-is : {end : ℕ} → FoundFrom text at space end → _≡_ {A = PartStep} (record { answer = Part at (end - at); next = end + 1 }) (stepAt text at)
+    pub step-is : {end : ℕ} → FoundFrom text at space end → _≡_ {A = PartStep} (record { answer = Part at (end - at); next = end + 1 }) (partStepAt text at)
     step-is {end} found =
         let whole : length (take size (drop at text)) ≡ size = length-take-le size (drop at text) (length-to-most space (drop at text)) in
         let long : end - at ≡ size = omega (arith, found .place) in
@@ -64,10 +64,10 @@ module _ (text : List ℕ) (at : ℕ) where
 pub record Here (text : List ℕ) (at start size : ℕ) : Type 0 where
   pub place : start ≡ at
   pub inside : start + size ≤ length text
-  pub next : stepAt text at .next ≡ start + size + 1
+  pub next : partStepAt text at .next ≡ start + size + 1
   pub left : partsFrom text at ≡ take size (drop start text) ∷ partsFrom text (start + size + 1)
 
-pub part-found : (text : List ℕ) (at : ℕ) {start size : ℕ} → stepAt text at .answer ≡ Part start size → Here text at start size
+pub part-found : (text : List ℕ) (at : ℕ) {start size : ℕ} → partStepAt text at .answer ≡ Part start size → Here text at start size
 part-found text at {start} {size} e = go (leb at (length text)) refl
   where
     go : (more : Bool) → leb at (length text) ≡ more → Here text at start size
@@ -86,7 +86,7 @@ part-found text at {start} {size} e = go (leb at (length text)) refl
         let z : _≡_ {A = ℕ} 0 1 = cc in
         absurd (omega arith)
 
-pub part-none : (text : List ℕ) (at : ℕ) → stepAt text at .answer ≡ End → partsFrom text at ≡ []
+pub part-none : (text : List ℕ) (at : ℕ) → partStepAt text at .answer ≡ End → partsFrom text at ≡ []
 part-none text at e = go (partsFrom text at) e
   where
     go : (left : List (List ℕ)) → firstOf at left ≡ End → left ≡ []

@@ -10,7 +10,7 @@ use lib.Dec.{eqb}
 use lib.ListN.{length, take, drop}
 use borrow.Author.Tests.{eqb-true, eqb-false, eq-eqb, ne-eqb}
 use Rattle.lists.specs.Lists.{All}
-use Rattle.template_parts.specs.Split.{led, split, joined, Without}
+use Rattle.template_parts.specs.Split.{led, split, joinedBy, Without}
 use Rattle.template_parts.specs.Parts.{lengthTo}
 
 -- ---- The first part
@@ -49,25 +49,25 @@ split-few separator (byte ∷ text) = go (eqb byte separator) (split-few separat
 -- ---- The parts determine the text
 
 module _ (separator : ℕ) where
-  joined-led : (byte : ℕ) (text : List ℕ) → joined separator (led byte (split separator text)) ≡ byte ∷ joined separator (split separator text)
-  unfolding joined
+  joined-led : (byte : ℕ) (text : List ℕ) → joinedBy separator (led byte (split separator text)) ≡ byte ∷ joinedBy separator (split separator text)
+  unfolding joinedBy
   joined-led byte text = rw (split-first separator text) (go (after separator (drop (lengthTo separator text) text)))
     where
-      go : (rest : List (List ℕ)) → joined separator ((byte ∷ take (lengthTo separator text) text) ∷ rest) ≡ byte ∷ joined separator (take (lengthTo separator text) text ∷ rest)
+      go : (rest : List (List ℕ)) → joinedBy separator ((byte ∷ take (lengthTo separator text) text) ∷ rest) ≡ byte ∷ joinedBy separator (take (lengthTo separator text) text ∷ rest)
       go [] = refl
       go (next ∷ rest) = refl
 
-  joined-next : (text : List ℕ) → joined separator ([] ∷ split separator text) ≡ separator ∷ joined separator (split separator text)
-  unfolding joined
+  joined-next : (text : List ℕ) → joinedBy separator ([] ∷ split separator text) ≡ separator ∷ joinedBy separator (split separator text)
+  unfolding joinedBy
   joined-next text = rw (split-first separator text)
 
   -- the parts joined by single separators give the text back
-  pub split-joined : (text : List ℕ) → joined separator (split separator text) ≡ text
-  unfolding split joined
+  pub split-joined : (text : List ℕ) → joinedBy separator (split separator text) ≡ text
+  unfolding split joinedBy
   split-joined [] = refl
   split-joined (byte ∷ text) = go (eqb byte separator) refl (split-joined text)
     where
-      go : (here : Bool) → eqb byte separator ≡ here → joined separator (split separator text) ≡ text → joined separator (cond here ([] ∷ split separator text) (led byte (split separator text))) ≡ byte ∷ text
+      go : (here : Bool) → eqb byte separator ≡ here → joinedBy separator (split separator text) ≡ text → joinedBy separator (cond here ([] ∷ split separator text) (led byte (split separator text))) ≡ byte ∷ text
       go true e rest = joined-next text ∙ ap (_∷_ separator) rest ∙ ap (λ (b : ℕ). b ∷ text) (sym (eqb-true byte separator e))
       go false e rest = joined-led byte text ∙ ap (_∷_ byte) rest
 
@@ -93,9 +93,9 @@ module _ (separator : ℕ) where
   split-leads (byte ∷ part) text without rest e = rw (ne-eqb byte separator (without .0), split-leads part text (without .1) rest e)
 
   -- parts that hold no separator are those of the text that they are joined to
-  pub split-only : (part : List ℕ) (parts : List (List ℕ)) → All (Without separator) (part ∷ parts) → split separator (joined separator (part ∷ parts)) ≡ part ∷ parts
-  unfolding split joined
+  pub split-only : (part : List ℕ) (parts : List (List ℕ)) → All (Without separator) (part ∷ parts) → split separator (joinedBy separator (part ∷ parts)) ≡ part ∷ parts
+  unfolding split joinedBy
   split-only part [] all = ap (split separator) (sym (append-nil part)) ∙ split-leads part [] (all .0) [] refl
   split-only part (next ∷ parts) all =
-      split-leads part (separator ∷ joined separator (next ∷ parts)) (all .0) (next ∷ parts)
+      split-leads part (separator ∷ joinedBy separator (next ∷ parts)) (all .0) (next ∷ parts)
       (rw (eq-eqb separator separator refl, split-only next parts (all .1)))

@@ -33,8 +33,8 @@ placeAfter at [] = at
 placeAfter at (part ∷ parts) = at + length part + 1
 
 -- what reading at a place finds, and the place after it
-abbrev pub stepAt : List ℕ → ℕ → PartStep
-stepAt text at = record { answer = firstOf at (partsFrom text at); next = placeAfter at (partsFrom text at) }
+abbrev pub partStepAt : List ℕ → ℕ → PartStep
+partStepAt text at = record { answer = firstOf at (partsFrom text at); next = placeAfter at (partsFrom text at) }
 
 -- ---- Looking for a byte
 

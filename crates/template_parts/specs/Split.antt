@@ -21,10 +21,10 @@ split separator [] = [] ∷ []
 split separator (byte ∷ text) = cond (eqb byte separator) ([] ∷ split separator text) (led byte (split separator text))
 
 -- parts with a single separator between each and the next
-unfoldable pub joined : ℕ → List (List ℕ) → List ℕ
-joined separator [] = []
-joined separator (part ∷ []) = part
-joined separator (part ∷ next ∷ parts) = part ++ (separator ∷ joined separator (next ∷ parts))
+unfoldable pub joinedBy : ℕ → List (List ℕ) → List ℕ
+joinedBy separator [] = []
+joinedBy separator (part ∷ []) = part
+joinedBy separator (part ∷ next ∷ parts) = part ++ (separator ∷ joinedBy separator (next ∷ parts))
 
 -- a text in which a byte does not occur
 abbrev pub Without : ℕ → List ℕ → Type 0

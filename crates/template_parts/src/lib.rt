@@ -2,7 +2,7 @@
 ghost use mathlib.Core.Path.{_≡_};
 ghost use Prim.Native.Nat.{_≤_};
 ghost use lib.ListN.{length};
-ghost use Rattle.template_parts.specs.Parts.{parts, stepAt};
+ghost use Rattle.template_parts.specs.Parts.{parts, partStepAt};
 ghost use Rattle.template_parts.specs.Contracts.{FoundFrom};
 
 const SPACE: u8 = b' ';
@@ -51,7 +51,7 @@ pub fn count_parts(text: &[u8]) -> usize
 
 // The part at a place. A text of n bytes has its last place at n; past it there is no part.
 pub fn part_at(text: &[u8], at: usize) -> PartStep
-    ensures { λ r. ⌜ r ≡ stepAt (now (text .entry)) at ⌝ }
+    ensures { λ r. ⌜ r ≡ partStepAt (now (text .entry)) at ⌝ }
 {
     if text.len() < at {
         return PartStep {
@@ -76,8 +76,8 @@ pub struct TemplatePlace {
 
 // The part at the place, which moves on to the next.
 pub fn next_part(text: &[u8], place: &mut TemplatePlace) -> PartAnswer
-    ensures { λ r. ⌜ (r ≡ stepAt (now (text .entry)) (now (place .entry) .at) .answer)
-        × (now (place .exit) .at ≡ stepAt (now (text .entry)) (now (place .entry) .at) .next) ⌝ }
+    ensures { λ r. ⌜ (r ≡ partStepAt (now (text .entry)) (now (place .entry) .at) .answer)
+        × (now (place .exit) .at ≡ partStepAt (now (text .entry)) (now (place .entry) .at) .next) ⌝ }
 {
     let at = place.at;
     let step = part_at(text, at);
@@ -88,7 +88,7 @@ pub fn next_part(text: &[u8], place: &mut TemplatePlace) -> PartAnswer
 // The part at a place and the place after it, by way of the record. Its parameters are plain, so whoever calls it needs no
 // proof by hand.
 pub fn part_from(text: &[u8], at: usize) -> PartStep
-    ensures { λ r. ⌜ r ≡ stepAt (now (text .entry)) at ⌝ }
+    ensures { λ r. ⌜ r ≡ partStepAt (now (text .entry)) at ⌝ }
 {
     let mut place = TemplatePlace { at };
     let answer = next_part(text, &mut place);

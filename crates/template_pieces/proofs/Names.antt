@@ -10,7 +10,7 @@ use lib.ListN.{take, drop}
 use Rattle.template_parts.specs.Parts.{lengthTo}
 use Rattle.template_parts.proofs.Split.{after, split-first}
 use Rattle.template_numbers.specs.Number.{readNumber}
-use Rattle.template_pieces.specs.Piece.{Piece, sequenceA, sequenceB, special, dollar, colon, upperA, lowerA, upperB, lowerB, same, sequenceOf, named, withType, ofColons, readPart}
+use Rattle.template_pieces.specs.Piece.{Piece, sequenceA, sequenceB, special, dollar, colon, upperA, lowerA, upperB, lowerB, same, sequenceOf, named, pieceTyped, ofColons, readPart}
 
 -- a special piece has this id, at this place
 abbrev pub Named : ℕ → List ℕ → Piece → Type 0
@@ -38,8 +38,8 @@ module _ (start : ℕ) (id : List ℕ) where
       each-cond (same name [] || (same name (upperA ∷ []) || same name (lowerA ∷ []))) _ _ tt
       (each-cond (same name (upperB ∷ []) || same name (lowerB ∷ [])) _ _ tt (each-sequence (readNumber name)))
 
-  typed-named : (number : Option ℕ) (piece : Option Piece) → Each (Named start id) piece → Each (Named start id) (withType number piece)
-  unfolding withType
+  typed-named : (number : Option ℕ) (piece : Option Piece) → Each (Named start id) piece → Each (Named start id) (pieceTyped number piece)
+  unfolding pieceTyped
   typed-named nothing piece h = tt
   typed-named (some t) nothing h = tt
   typed-named (some t) (some (sequenceA u)) h = tt

@@ -18,7 +18,7 @@ use Rattle.template_parts.proofs.Finding.{length-to-byte}
 use Rattle.template_parts.proofs.Split.{after, split-first}
 use Rattle.template_numbers.specs.Number.{readNumber, numberAnswer}
 use Rattle.template_numbers.proofs.Number.{above-none}
-use Rattle.template_pieces.specs.Piece.{Piece, sequenceA, sequenceB, special, dollar, colon, upperA, lowerA, upperB, lowerB, same, sequenceOf, named, withType, ofColons, readPart, pieceAnswer}
+use Rattle.template_pieces.specs.Piece.{Piece, sequenceA, sequenceB, special, dollar, colon, upperA, lowerA, upperB, lowerB, same, sequenceOf, named, pieceTyped, ofColons, readPart, pieceAnswer}
 use Rattle.template_numbers.specs.declared.NumberAnswer.the-variants.{Unreadable as Bad, Number}
 use Rattle.template_pieces.specs.declared.PieceAnswer.the-variants.{Unreadable, Read}
 
@@ -96,11 +96,11 @@ module _ (start : ℕ) (part : List ℕ) {end : ℕ} (first : FoundFrom part 0 c
     no-number : second < length rest → readNumber rest ≡ nothing
     no-number more = above-none rest second more (omega (arith, length-to-byte colon rest more))
 
-    pub typed-part : readPart start part ≡ withType (readNumber (take (length part - (end + 1)) rest)) (named start (take end part))
-    unfolding readPart withType
+    pub typed-part : readPart start part ≡ pieceTyped (readNumber (take (length part - (end + 1)) rest)) (named start (take end part))
+    unfolding readPart pieceTyped
     typed-part = rw (at-second, take-rest) (go (leb (length rest) second) refl)
       where
-        go : (all : Bool) → leb (length rest) second ≡ all → ofColons start (take end part ∷ take second rest ∷ after colon (drop second rest)) ≡ withType (readNumber rest) (named start (take end part))
+        go : (all : Bool) → leb (length rest) second ≡ all → ofColons start (take end part ∷ take second rest ∷ after colon (drop second rest)) ≡ pieceTyped (readNumber rest) (named start (take end part))
         go true e =
             let whole : length rest ≤ second = leb-true (length rest) second e in
             rw (take-all second rest whole, drop-of-length-le rest whole)
@@ -120,21 +120,21 @@ unfolding numberAnswer pieceAnswer
 numbered-some nothing e = cc
 numbered-some (some n) e = cc
 
-pub typed-none : (number : Option ℕ) (piece : Option Piece) → numberAnswer number ≡ Bad → Unreadable ≡ pieceAnswer (withType number piece)
-unfolding numberAnswer pieceAnswer withType
+pub typed-none : (number : Option ℕ) (piece : Option Piece) → numberAnswer number ≡ Bad → Unreadable ≡ pieceAnswer (pieceTyped number piece)
+unfolding numberAnswer pieceAnswer pieceTyped
 typed-none nothing piece e = refl
 typed-none (some n) piece e = cc
 
-pub typed-bad : (number : Option ℕ) (piece : Option Piece) → pieceAnswer piece ≡ Unreadable → Unreadable ≡ pieceAnswer (withType number piece)
-unfolding numberAnswer pieceAnswer withType
+pub typed-bad : (number : Option ℕ) (piece : Option Piece) → pieceAnswer piece ≡ Unreadable → Unreadable ≡ pieceAnswer (pieceTyped number piece)
+unfolding numberAnswer pieceAnswer pieceTyped
 typed-bad nothing piece e = refl
 typed-bad (some n) nothing e = refl
 typed-bad (some n) (some (sequenceA t)) e = cc
 typed-bad (some n) (some (sequenceB t)) e = cc
 typed-bad (some n) (some (special s id t)) e = cc
 
-pub typed-some : (number : Option ℕ) (piece : Option Piece) {type kind old start size : ℕ} → numberAnswer number ≡ Number type → pieceAnswer piece ≡ Read kind old start size → Read kind type start size ≡ pieceAnswer (withType number piece)
-unfolding numberAnswer pieceAnswer withType
+pub typed-some : (number : Option ℕ) (piece : Option Piece) {type kind old start size : ℕ} → numberAnswer number ≡ Number type → pieceAnswer piece ≡ Read kind old start size → Read kind type start size ≡ pieceAnswer (pieceTyped number piece)
+unfolding numberAnswer pieceAnswer pieceTyped
 typed-some nothing piece n e = cc
 typed-some (some t) nothing n e = cc
 typed-some (some t) (some (sequenceA u)) n e = cc

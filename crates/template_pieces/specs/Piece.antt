@@ -61,15 +61,15 @@ typed type (sequenceA _) = sequenceA type
 typed type (sequenceB _) = sequenceB type
 typed type (special start id _) = special start id type
 
-unfoldable pub withType : Option ℕ → Option Piece → Option Piece
-withType nothing piece = nothing
-withType (some type) piece = Option·map (typed type) piece
+unfoldable pub pieceTyped : Option ℕ → Option Piece → Option Piece
+pieceTyped nothing piece = nothing
+pieceTyped (some type) piece = Option·map (typed type) piece
 
 -- "A part has at most one colon; after it a u32": the piece of a part, by what stands between its colons
 abbrev pub ofColons : ℕ → List (List ℕ) → Option Piece
 ofColons start [] = nothing
 ofColons start (id ∷ []) = named start id
-ofColons start (id ∷ number ∷ []) = withType (readNumber number) (named start id)
+ofColons start (id ∷ number ∷ []) = pieceTyped (readNumber number) (named start id)
 ofColons start (id ∷ number ∷ more ∷ rest) = nothing
 
 -- the piece of a part that starts at a place of the text, unless it cannot be read

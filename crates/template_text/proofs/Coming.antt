@@ -7,7 +7,7 @@ use Prim.Native.Nat.{ℕ, _+_, _-_, _≤_, _<_}
 use native.Mathlib.Omega.{arith}
 use mathlib.Core.List.{List, [], _∷_, _++_}
 use lib.ListN.{length, take, drop}
-use Rattle.template_parts.specs.Parts.{parts, stepAt}
+use Rattle.template_parts.specs.Parts.{parts, partStepAt}
 use Rattle.template_parts.specs.declared.PartAnswer.{PartAnswer}
 use Rattle.template_parts.specs.declared.PartAnswer.the-variants.{Part, End as NoPart}
 use Rattle.template_parts.proofs.Parts.{part-found}
@@ -23,19 +23,19 @@ use Rattle.template_text.proofs.Walked.{Walked, walked-end, walked-bad,
 -- ---- What comes, by the part and the piece that it is
 
 module _ (text : List ℕ) (at : ℕ) where
-  pub at-end : stepAt text at .answer ≡ NoPart → End ≡ comesAt text at
+  pub at-end : partStepAt text at .answer ≡ NoPart → End ≡ comesAt text at
   unfolding comesAt
-  at-end e = sym (ap (ofPart text (stepAt text at .next)) e)
+  at-end e = sym (ap (ofPart text (partStepAt text at .next)) e)
 
-  module _ {start size : ℕ} (e : stepAt text at .answer ≡ Part start size) where
+  module _ {start size : ℕ} (e : partStepAt text at .answer ≡ Part start size) where
     pub at-bad : pieceAnswer (readPart start (take size (drop start text))) ≡ NoPiece → Unreadable ≡ comesAt text at
     unfolding comesAt
-    at-bad bad = sym (ap (ofPart text (stepAt text at .next)) e ∙ ap (withNext (stepAt text at .next)) bad)
+    at-bad bad = sym (ap (ofPart text (partStepAt text at .next)) e ∙ ap (withNext (partStepAt text at .next)) bad)
 
-    pub at-piece : {kind type place long : ℕ} → pieceAnswer (readPart start (take size (drop start text))) ≡ ReadPiece kind type place long → {next : ℕ} → next ≡ stepAt text at .next → Read kind type place long next ≡ comesAt text at
+    pub at-piece : {kind type place long : ℕ} → pieceAnswer (readPart start (take size (drop start text))) ≡ ReadPiece kind type place long → {next : ℕ} → next ≡ partStepAt text at .next → Read kind type place long next ≡ comesAt text at
     unfolding comesAt
     at-piece {kind} {type} {place} {long} read {next} n =
-        ap (Read kind type place long) n ∙ sym (ap (ofPart text (stepAt text at .next)) e ∙ ap (withNext (stepAt text at .next)) read)
+        ap (Read kind type place long) n ∙ sym (ap (ofPart text (partStepAt text at .next)) e ∙ ap (withNext (partStepAt text at .next)) read)
 
 -- ---- And the other way round
 
@@ -57,12 +57,12 @@ module _ (next : ℕ) where
 -- the id of a piece that comes lies in the text
 pub come-within : (text : List ℕ) (at : ℕ) {kind type place long next : ℕ} → comesAt text at ≡ Read kind type place long next → place + long ≤ length text
 unfolding comesAt
-come-within text at {kind} {type} {place} {long} {next} e = go (stepAt text at .answer) refl e
+come-within text at {kind} {type} {place} {long} {next} e = go (partStepAt text at .answer) refl e
   where
-    go : (a : PartAnswer) → stepAt text at .answer ≡ a → ofPart text (stepAt text at .next) a ≡ Read kind type place long next → place + long ≤ length text
+    go : (a : PartAnswer) → partStepAt text at .answer ≡ a → ofPart text (partStepAt text at .next) a ≡ Read kind type place long next → place + long ≤ length text
     go NoPart is e = let z : _≡_ {A = ℕ} 0 1 = cc in absurd (omega arith)
     go (Part start size) is e =
-        let r = piece-read text start size (part-found text at is .inside) (with-read (stepAt text at .next) (pieceAnswer (readPart start (take size (drop start text)))) e .0) in
+        let r = piece-read text start size (part-found text at is .inside) (with-read (partStepAt text at .next) (pieceAnswer (readPart start (take size (drop start text)))) e .0) in
         piece-within (r .piece) (r .is)
 
 -- ---- On a walk
@@ -79,29 +79,29 @@ pub record Passing (text : List ℕ) (at : ℕ) (passed : List Piece) (kind type
 module _ {text : List ℕ} {at : ℕ} {passed : List Piece} (w : Walked text at passed) where
   pub come-end : comesAt text at ≡ End → readParts 0 (parts text) ≡ some passed
   unfolding comesAt
-  come-end e = go (stepAt text at .answer) refl e
+  come-end e = go (partStepAt text at .answer) refl e
     where
-      go : (a : PartAnswer) → stepAt text at .answer ≡ a → ofPart text (stepAt text at .next) a ≡ End → readParts 0 (parts text) ≡ some passed
+      go : (a : PartAnswer) → partStepAt text at .answer ≡ a → ofPart text (partStepAt text at .next) a ≡ End → readParts 0 (parts text) ≡ some passed
       go NoPart is e = walked-end w is
-      go (Part start size) is e = absurd (with-more (stepAt text at .next) (pieceAnswer (readPart start (take size (drop start text)))) e)
+      go (Part start size) is e = absurd (with-more (partStepAt text at .next) (pieceAnswer (readPart start (take size (drop start text)))) e)
 
   pub come-bad : comesAt text at ≡ Unreadable → readParts 0 (parts text) ≡ nothing
   unfolding comesAt
-  come-bad e = go (stepAt text at .answer) refl e
+  come-bad e = go (partStepAt text at .answer) refl e
     where
-      go : (a : PartAnswer) → stepAt text at .answer ≡ a → ofPart text (stepAt text at .next) a ≡ Unreadable → readParts 0 (parts text) ≡ nothing
+      go : (a : PartAnswer) → partStepAt text at .answer ≡ a → ofPart text (partStepAt text at .next) a ≡ Unreadable → readParts 0 (parts text) ≡ nothing
       go NoPart is e = cc
       go (Part start size) is e =
-          walked-bad w is (answer-none (readPart start (take size (drop start text))) (with-bad (stepAt text at .next) (pieceAnswer (readPart start (take size (drop start text)))) e))
+          walked-bad w is (answer-none (readPart start (take size (drop start text))) (with-bad (partStepAt text at .next) (pieceAnswer (readPart start (take size (drop start text)))) e))
 
   pub come-piece : {kind type place long next : ℕ} → comesAt text at ≡ Read kind type place long next → Passing text at passed kind type place long next
   unfolding comesAt
-  come-piece {kind} {type} {place} {long} {next} e = go (stepAt text at .answer) refl e
+  come-piece {kind} {type} {place} {long} {next} e = go (partStepAt text at .answer) refl e
     where
-      go : (a : PartAnswer) → stepAt text at .answer ≡ a → ofPart text (stepAt text at .next) a ≡ Read kind type place long next → Passing text at passed kind type place long next
+      go : (a : PartAnswer) → partStepAt text at .answer ≡ a → ofPart text (partStepAt text at .next) a ≡ Read kind type place long next → Passing text at passed kind type place long next
       go NoPart is e = let z : _≡_ {A = ℕ} 0 1 = cc in absurd (omega arith)
       go (Part start size) is e =
-          let told = with-read (stepAt text at .next) (pieceAnswer (readPart start (take size (drop start text)))) e in
+          let told = with-read (partStepAt text at .next) (pieceAnswer (readPart start (take size (drop start text)))) e in
           let r = piece-read text start size (part-inside w is) (told .0) in
           let moves = walked-moves w is in
           rw (told .1)

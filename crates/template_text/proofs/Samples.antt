@@ -9,7 +9,7 @@ use Rattle.record.specs.declared.Refusal.the-variants.{TemplateTooLong}
 use Rattle.lines.specs.Decimal.{decimalAfter}
 use Rattle.template_parts.specs.Split.{split}
 use Rattle.template_numbers.specs.Number.{afterSign, readNumber}
-use Rattle.template_pieces.specs.Piece.{same, sequenceOf, named, withType, readPart}
+use Rattle.template_pieces.specs.Piece.{same, sequenceOf, named, pieceTyped, readPart}
 use Rattle.template_text.specs.Template.{readParts, unread, readTemplate, readingNumbers}
 use Rattle.template_text.proofs.Answers.{template-long}
 
@@ -41,7 +41,7 @@ abbrev pub Right : Sample → Type 0
 Right s = s .said ≡ s .expected
 
 pub all-right : All Right examples
-unfolding split decimalAfter afterSign readNumber same sequenceOf named withType readPart readParts readTemplate flatMap
+unfolding split decimalAfter afterSign readNumber same sequenceOf named pieceTyped readPart readParts readTemplate flatMap
 all-right = (refl, (refl, (refl, (refl, (refl, (refl, (refl, (refl, (refl, tt)))))))))
 
 -- `$C` and 64 spaces are 65 parts, which give 8 although one cannot be read

@@ -9,7 +9,7 @@ use mathlib.Core.List.{List, [], _∷_, _++_, append-nil}
 use lib.ListN.{length, take, drop, length-append, length-drop}
 use lib.Seq.{append-snoc, length-take-le}
 use borrow.Author.Tests.{le-leb}
-use Rattle.template_parts.specs.Parts.{parts, partsFrom, stepAt}
+use Rattle.template_parts.specs.Parts.{parts, partsFrom, partStepAt}
 use Rattle.template_parts.specs.declared.PartAnswer.the-variants.{Part, End}
 use Rattle.template_parts.proofs.Parts.{Here, part-found, part-none}
 use Rattle.template_pieces.specs.Piece.{Piece, readPart}
@@ -45,11 +45,11 @@ module _ {text : List ℕ} {at : ℕ} {passed : List Piece} (w : Walked text at 
       go (some rest) e = (rest, cc)
 
   -- the end: the pieces passed are all
-  pub walked-end : stepAt text at .answer ≡ End → readParts 0 (parts text) ≡ some passed
+  pub walked-end : partStepAt text at .answer ≡ End → readParts 0 (parts text) ≡ some passed
   unfolding readParts
   walked-end e = w .pieces-are ∙ rw (part-none text at e) (ap some (append-nil passed))
 
-  module _ {start size : ℕ} (e : stepAt text at .answer ≡ Part start size) where
+  module _ {start size : ℕ} (e : partStepAt text at .answer ≡ Part start size) where
     here : Here text at start size
     here = part-found text at e
 
@@ -58,7 +58,7 @@ module _ {text : List ℕ} {at : ℕ} {passed : List Piece} (w : Walked text at 
     part-inside = here .inside
 
     -- and the place moves on from where it was
-    pub walked-moves : (at < stepAt text at .next) × (at ≤ length text)
+    pub walked-moves : (at < partStepAt text at .next) × (at ≤ length text)
     walked-moves = (omega (arith, here .next, here .place), omega (arith, here .inside, here .place))
 
     abbrev part : List ℕ
@@ -76,7 +76,7 @@ module _ {text : List ℕ} {at : ℕ} {passed : List Piece} (w : Walked text at 
     walked-bad bad = w .pieces-are ∙ rw (step, bad)
 
     -- a part that can be read is passed
-    pub walked-on : {piece : Piece} → readPart start part ≡ some piece → Walked text (stepAt text at .next) (passed ++ (piece ∷ []))
+    pub walked-on : {piece : Piece} → readPart start part ≡ some piece → Walked text (partStepAt text at .next) (passed ++ (piece ∷ []))
     walked-on {piece} good =
         rw (here .next)
         (record {

@@ -3,7 +3,7 @@
 use Prim.Native.Nat.{ℕ}
 use mathlib.Core.List.{List}
 use lib.ListN.{take, drop}
-use Rattle.template_parts.specs.Parts.{stepAt}
+use Rattle.template_parts.specs.Parts.{partStepAt}
 use Rattle.template_parts.specs.declared.PartAnswer.{PartAnswer}
 use Rattle.template_parts.specs.declared.PartAnswer.the-variants.{Part, End as NoPart}
 use Rattle.template_pieces.specs.Piece.{readPart, pieceAnswer}
@@ -23,4 +23,4 @@ ofPart text next NoPart = End
 ofPart text next (Part start size) = withNext next (pieceAnswer (readPart start (take size (drop start text))))
 
 unfoldable pub comesAt : List ℕ → ℕ → PieceStep
-comesAt text at = ofPart text (stepAt text at .next) (stepAt text at .answer)
+comesAt text at = ofPart text (partStepAt text at .next) (partStepAt text at .answer)

@@ -9,14 +9,14 @@ use Rattle.lookup_ranges.specs.First.{lastFrom}
 use Rattle.lines.specs.Decimal.{decimalAfter}
 use Rattle.template_parts.specs.Split.{split}
 use Rattle.template_numbers.specs.Number.{afterSign, readNumber}
-use Rattle.template_pieces.specs.Piece.{same, sequenceOf, named, withType, readPart}
+use Rattle.template_pieces.specs.Piece.{same, sequenceOf, named, pieceTyped, readPart}
 use Rattle.template_text.specs.Template.{readParts, readTemplate}
 use Rattle.template_entries.specs.Table.{Table, entryAt, memberAt, entriesIn, membersIn, wellMade, readTable}
 use Rattle.template_find.specs.Last.{lastWith}
 use Rattle.template_text.specs.declared.Which.the-variants.{Single, Pair}
 use Rattle.template_text.specs.Used.{textUsed}
 use Rattle.template_validate.specs.Validation.{validity, validityRefusal}
-use Rattle.template_walk.specs.Counting.{added, addedBy, addedAnswer, countOf}
+use Rattle.template_walk.specs.Counting.{added, addedBy, addedAnswer, countTold}
 use Rattle.template_known.specs.Known.{known, knownAnswer}
 
 -- Two entries with the id `x`, of one member and of two; both ids lie in the pool `xx`.
@@ -32,7 +32,7 @@ abbrev validated : Bool → List ℕ → Bool → List ℕ → ℕ → Sample
 validated single-set single pair-set pair expected = record { said = validityRefusal (validity table (readTemplate (textUsed single-set single Single)) (readTemplate (textUsed pair-set pair Pair))); expected = expected }
 
 abbrev counted : Bool → List ℕ → ℕ → Sample
-counted set text expected = record { said = countOf (addedAnswer table (readTemplate (textUsed set text Single))); expected = expected }
+counted set text expected = record { said = countTold (addedAnswer table (readTemplate (textUsed set text Single))); expected = expected }
 
 abbrev pub samples : List Sample
 samples =
@@ -54,5 +54,5 @@ abbrev pub Right : Sample → Type 0
 Right s = s .said ≡ s .expected
 
 pub all-right : All Right samples
-unfolding several lastFrom decimalAfter split afterSign readNumber same sequenceOf named withType readPart readParts readTemplate entryAt memberAt entriesIn membersIn wellMade readTable lastWith known knownAnswer validity added addedBy addedAnswer
+unfolding several lastFrom decimalAfter split afterSign readNumber same sequenceOf named pieceTyped readPart readParts readTemplate entryAt memberAt entriesIn membersIn wellMade readTable lastWith known knownAnswer validity added addedBy addedAnswer
 all-right = (refl, (refl, (refl, (refl, (refl, (refl, (refl, (refl, (refl, tt)))))))))

@@ -14,14 +14,14 @@ use Rattle.template_text.specs.Template.{mostParts, short}
 use Rattle.template_text.proofs.Walked.{Walked, walked-start}
 use Rattle.template_text.proofs.Answers.{short-is, template-long, walk-end, walk-bad}
 use Rattle.template_entries.specs.Table.{Special, entriesIn, sound, readTable}
-use Rattle.template_entries.specs.Rows.{membersOf as entryMembersOf}
+use Rattle.template_entries.specs.Rows.{membersOf}
 use Rattle.template_entries.proofs.EntryMembers.{members-many, members-there, members-special}
-use Rattle.template_find.specs.Contracts.{entryHasId, foundAnswer}
+use Rattle.template_find.specs.Contracts.{entryHasId, entryAnswer}
 use Rattle.template_find.specs.Last.{lastWith}
 use Rattle.template_find.specs.declared.FoundEntry.the-variants.{Unknown, At}
 use Rattle.template_entries.proofs.Sound.{table-holds}
 use Rattle.template_find.proofs.Found.{unknown-is, found-is, found-among}
-use Rattle.template_walk.specs.Counting.{membersOf, added, addedBy, addedAnswer}
+use Rattle.template_walk.specs.Counting.{memberCount, added, addedBy, addedAnswer}
 use Rattle.template_walk.specs.Contracts.{CountedIn, IdsOf}
 use Rattle.template_walk.specs.declared.CountAnswer.the-variants.{Refused, Count}
 use Rattle.template_text.specs.Comes.{comesAt}
@@ -31,17 +31,17 @@ use Rattle.template_text.proofs.Coming.{Passing, come-piece}
 -- ---- The ids of one entry
 
 module _ (entries numbers id : List ℕ) where
-  pub ids-unknown : foundAnswer (lastFrom (entryHasId numbers id) 0 (entriesIn entries)) ≡ Unknown → IdsOf entries numbers id 0
-  ids-unknown e = record { small = omega arith; says = λ members table t. sym (ap membersOf (unknown-is (table-holds entries members numbers t) id e)) }
+  pub ids-unknown : entryAnswer (lastFrom (entryHasId numbers id) 0 (entriesIn entries)) ≡ Unknown → IdsOf entries numbers id 0
+  ids-unknown e = record { small = omega arith; says = λ members table t. sym (ap memberCount (unknown-is (table-holds entries members numbers t) id e)) }
 
-  pub ids-found : {k count : ℕ} → foundAnswer (lastFrom (entryHasId numbers id) 0 (entriesIn entries)) ≡ At k → count ≡ entryMembersOf entries k .count → count < 4294967296 → IdsOf entries numbers id count
+  pub ids-found : {k count : ℕ} → entryAnswer (lastFrom (entryHasId numbers id) 0 (entriesIn entries)) ≡ At k → count ≡ membersOf entries k .count → count < 4294967296 → IdsOf entries numbers id count
   ids-found {k} {count} e is small =
       record {
         small = small;
         says =
             λ members table t.
             let h = table-holds entries members numbers t in
-            is ∙ sym (ap membersOf (found-is h id e) ∙ ap length (members-special h k) ∙ members-many (members-there h k (found-among entries numbers id e)));
+            is ∙ sym (ap memberCount (found-is h id e) ∙ ap length (members-special h k) ∙ members-many (members-there h k (found-among entries numbers id e)));
       }
 
 -- ---- The sum
@@ -110,6 +110,6 @@ module _ {text entries numbers : List ℕ} {at sum : ℕ} (c : Counting text ent
           small = omega (arith, c .small, ids .small, length-append (c .passed) (piece ∷ []));
           sum-is =
               λ members table t.
-              let adds : added table piece ≡ membersOf (lastWith (take (place + long - place) (drop place text)) table) = ap (added table) (kind-special piece (count-passing .is) is-special) in
+              let adds : added table piece ≡ memberCount (lastWith (take (place + long - place) (drop place text)) table) = ap (added table) (kind-special piece (count-passing .is) is-special) in
               omega (arith, c .sum-is members table t, added-more table (c .passed) piece, ids .says members table t);
         }

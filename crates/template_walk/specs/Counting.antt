@@ -12,15 +12,15 @@ use Rattle.template_walk.specs.declared.CountAnswer.{CountAnswer}
 use Rattle.template_walk.specs.declared.CountAnswer.the-variants.{Refused, Count}
 
 -- "Unknown ids add 0"
-abbrev pub membersOf : Option Special → ℕ
-membersOf nothing = 0
-membersOf (some s) = length (s .members)
+abbrev pub memberCount : Option Special → ℕ
+memberCount nothing = 0
+memberCount (some s) = length (s .members)
 
 -- what a piece adds: the number of ids of a special one
 unfoldable pub added : List Special → Piece → ℕ
 added table (sequenceA _) = 0
 added table (sequenceB _) = 0
-added table (special _ id _) = membersOf (lastWith id table)
+added table (special _ id _) = memberCount (lastWith id table)
 
 -- "the sum is a u64"
 unfoldable pub addedBy : List Special → List Piece → ℕ
@@ -34,6 +34,6 @@ addedAnswer (sound table) (unread k) = Refused k
 addedAnswer (sound table) (reads pieces) = Count (addedBy table pieces)
 
 -- the count, 0 with a refusal
-abbrev pub countOf : CountAnswer → ℕ
-countOf (Refused k) = 0
-countOf (Count n) = n
+abbrev pub countTold : CountAnswer → ℕ
+countTold (Refused k) = 0
+countTold (Count n) = n

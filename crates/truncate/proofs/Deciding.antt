@@ -25,7 +25,7 @@ use Rattle.record_extent.specs.Contracts.{Stands}
 use Rattle.truncate_size.specs.Size.{sizeAfter, strideRefused}
 use Rattle.truncate.specs.Truncate.{cutOutcome, truncateOutcome}
 use Rattle.truncate_write.specs.Truncated.{truncated}
-use Rattle.truncate_write.specs.Contracts.{Ask}
+use Rattle.truncate_write.specs.Contracts.{AskTruncating}
 use Rattle.truncate_write.proofs.Sizes.{truncated-size}
 use Rattle.truncate_write.proofs.Fineness.{truncated-fine}
 
@@ -75,7 +75,7 @@ module _ {nodes rows : List ℕ} {E : Encoding} (h : One nodes rows E) (out out�
     outcome-no-room r = outcome-room ∙ ap (λ (b : Bool). cond b (done result) (refused NoRoom)) r
 
     module _ (r : roomy (sizeAfter (getD nodes 0 0) max stride own) (length out) (length out′) ≡ true) where
-      pub one-asks : Ask nodes rows 0 0 own max stride out 0 out′ 0
+      pub one-asks : AskTruncating nodes rows 0 0 own max stride out 0 out′ 0
       one-asks =
           let f = roomy-fits (sizeAfter (getD nodes 0 0) max stride own) (length out) (length out′) r in
           record {

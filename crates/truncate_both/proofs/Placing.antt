@@ -16,7 +16,7 @@ use Rattle.record_extent.specs.declared.Extent.{Extent}
 use Rattle.record_extent.specs.Size.{sizeOf}
 use Rattle.truncate_size.specs.Size.{sizeAfter}
 use Rattle.truncate_write.specs.Truncated.{truncated}
-use Rattle.truncate_write.specs.Contracts.{Ask}
+use Rattle.truncate_write.specs.Contracts.{AskTruncating}
 use Rattle.truncate_write.proofs.Sizes.{truncated-size}
 use Rattle.truncate_write.proofs.Fineness.{truncated-fine}
 use Rattle.truncate_both.specs.Contracts.{Two, AskTwo}
@@ -25,7 +25,7 @@ use Rattle.record_extent.proofs.Pair.{second-here}
 -- ---- What each cut asks
 
 module _ {nodes rows : List ℕ} {own other kept : Extent} {n m stride : ℕ} {nodes′ rows′ : List ℕ} (q : AskTwo nodes rows own other kept n m stride nodes′ rows′) where
-  pub first-asks : Ask nodes rows 0 0 own n stride nodes′ 0 rows′ 0
+  pub first-asks : AskTruncating nodes rows 0 0 own n stride nodes′ 0 rows′ 0
   first-asks =
       let t = q .two in
       record {
@@ -37,7 +37,7 @@ module _ {nodes rows : List ℕ} {own other kept : Extent} {n m stride : ℕ} {n
         rows-fit = omega (arith, q .rows-fit, ap (λ (s : Extent). s .rows) (t .kept-is));
       }
 
-  pub second-asks : {nodes″ rows″ : List ℕ} → length nodes″ ≡ length nodes′ → length rows″ ≡ length rows′ → Ask nodes rows (own .nodes * nodeWidth) (own .rows * rowWidth) other m stride nodes″ (kept .nodes * nodeWidth) rows″ (kept .rows * rowWidth)
+  pub second-asks : {nodes″ rows″ : List ℕ} → length nodes″ ≡ length nodes′ → length rows″ ≡ length rows′ → AskTruncating nodes rows (own .nodes * nodeWidth) (own .rows * rowWidth) other m stride nodes″ (kept .nodes * nodeWidth) rows″ (kept .rows * rowWidth)
   second-asks a b =
       let t = q .two in
       record {

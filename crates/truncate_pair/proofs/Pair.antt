@@ -15,10 +15,10 @@ use Rattle.record_extent.specs.Size.{sizeOf}
 use Rattle.record_extent.specs.declared.Extent.{Extent}
 use Rattle.record_extent.proofs.Pair.{pair-here, second-here, second-ends}
 use Rattle.truncate_pair.specs.TruncatePair.{rowsOfSecond}
-use Rattle.truncate_pair.specs.Contracts.{rowsAt}
+use Rattle.truncate_pair.specs.Contracts.{secondRowsAt}
 
 -- its row count is what stands there
-pub second-at : {nodes rows : List ℕ} {E : Encoding} (second : Option Encoding) → OneOrTwo nodes rows E second → {own : Extent} → own ≡ sizeOf (forest (E ∷ [])) → rowsAt nodes (own .nodes * nodeWidth) ≡ rowsOfSecond second
+pub second-at : {nodes rows : List ℕ} {E : Encoding} (second : Option Encoding) → OneOrTwo nodes rows E second → {own : Extent} → own ≡ sizeOf (forest (E ∷ [])) → secondRowsAt nodes (own .nodes * nodeWidth) ≡ rowsOfSecond second
 second-at {nodes} {rows} {E} nothing h {own} e = rw (le-ltb (own .nodes * nodeWidth) (length nodes) (second-ends h e))
 second-at {nodes} {rows} {E} (some F) h {own} e =
     let there = second-here (pair-here h) e in

@@ -26,7 +26,7 @@ use Rattle.cut_plan.proofs.Decides.{Says, decided}
 use Rattle.cut_lengths.proofs.Keeping.{AtMost, Answers, lengths-answer, lengths-at-most}
 use Rattle.record_extent.specs.Size.{sizeOf, roomy}
 use Rattle.record_extent.proofs.Room.{room-by-size}
-use Rattle.cut_windows.specs.Made.{part, gathered}
+use Rattle.cut_windows.specs.Made.{stretchOf, gathered}
 use Rattle.cut_windows.proofs.Parts.{size-part}
 use Rattle.truncate.specs.Truncate.{cutOutcome}
 use Rattle.truncate_size.specs.Size.{strideRefused}
@@ -44,7 +44,7 @@ rows-kept max stride d E t = go (decisionOf (length (E .rows)) max stride) (deci
     kept : {F : Encoding} → truncated max stride d E ≡ F → length (F .rows) ≤ max → length (truncated max stride d E .rows) ≤ max
     kept e h = omega (arith, ap (λ (F : Encoding). length (F .rows)) e)
 
-    first : (bs : List Bounds) → All (Sized (length (E .rows)) max stride) bs → length (gathered (map (part (E .rows)) bs) .rows) ≤ max
+    first : (bs : List Bounds) → All (Sized (length (E .rows)) max stride) bs → length (gathered (map (stretchOf (E .rows)) bs) .rows) ≤ max
     first [] h = omega arith
     first (b ∷ bs) (h, hs) = omega (arith, size-part (E .rows) b (h .inside), h .within-max)
 

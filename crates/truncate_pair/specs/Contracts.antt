@@ -9,5 +9,5 @@ use Rattle.cut_lengths.specs.declared.Second.{Second}
 use Rattle.cut_lengths.specs.declared.Second.the-variants.{Missing, Rows}
 
 -- the row count at place i, if there is a node
-abbrev pub rowsAt : List ℕ → ℕ → Second
-rowsAt nodes i = cond (ltb i (length nodes)) (Rows (getD nodes i 0)) Missing
+abbrev pub secondRowsAt : List ℕ → ℕ → Second
+secondRowsAt nodes i = cond (ltb i (length nodes)) (Rows (getD nodes i 0)) Missing

@@ -2,7 +2,7 @@
 ghost use mathlib.Core.Path.{_≡_};
 ghost use Rattle.record.specs.Outcome.{Writes};
 ghost use Rattle.record.specs.Read.{read};
-ghost use Rattle.truncate_pair.specs.Contracts.{rowsAt};
+ghost use Rattle.truncate_pair.specs.Contracts.{secondRowsAt};
 ghost use Rattle.truncate_pair.specs.TruncatePair.{truncatePairOutcome};
 use cut_lengths::Kept;
 use cut_lengths::Second;
@@ -59,7 +59,7 @@ pub fn truncate_encodings(
 
 // The row count of the second encoding, whose node stands at i if there is one.
 fn second_rows(nodes: &[u32], i: usize) -> Second
-    ensures { λ r. ⌜ r ≡ rowsAt (now (nodes .entry)) i ⌝ }
+    ensures { λ r. ⌜ r ≡ secondRowsAt (now (nodes .entry)) i ⌝ }
 {
     if i < nodes.len() {
         Second::Rows(nodes[i])

@@ -15,17 +15,17 @@ use Rattle.cut_plan.proofs.Windows.{windows-count, windows-rows}
 use Rattle.cut_plan.proofs.Decides.{Says, decided}
 use Rattle.record_extent.specs.declared.Extent.{Extent}
 use Rattle.truncate_size.specs.Size.{sizeCut}
-use Rattle.cut_windows.specs.Made.{plain, part, gathered}
+use Rattle.cut_windows.specs.Made.{plain, stretchOf, gathered}
 use Rattle.truncate_write.specs.Truncated.{truncated}
 use Rattle.record.specs.Standing.{Here, Put}
 use Rattle.cut_windows.specs.Contracts.{AskWindows}
-use Rattle.truncate_write.specs.Contracts.{AskCopy, Ask}
+use Rattle.truncate_write.specs.Contracts.{AskCopy, AskTruncating}
 use Rattle.truncate_write.proofs.Sizes.{truncated-whole, truncated-emptied, truncated-cut, not-refused}
 use Rattle.record.proofs.Here.{here-size, here-own}
 
 -- ---- What each way asks
 
-module _ {nodes rows : List ℕ} {i j : ℕ} {own : Extent} {max stride : ℕ} {nodes′ : List ℕ} {a : ℕ} {rows′ : List ℕ} {b : ℕ} (q : Ask nodes rows i j own max stride nodes′ a rows′ b) where
+module _ {nodes rows : List ℕ} {i j : ℕ} {own : Extent} {max stride : ℕ} {nodes′ : List ℕ} {a : ℕ} {rows′ : List ℕ} {b : ℕ} (q : AskTruncating nodes rows i j own max stride nodes′ a rows′ b) where
   -- what is decided of the number that stands for the rows
   decided-here : {k : Decision} → k ≡ decisionOf (getD nodes i 0) max stride → decisionOf (length (q .E .rows)) max stride ≡ k
   decided-here e = sym (e ∙ ap (λ (n : ℕ). decisionOf n max stride) (here-size (q .here)))
@@ -72,5 +72,5 @@ module _ {nodes rows : List ℕ} {i j : ℕ} {E : Encoding} (h : Here nodes rows
   pub made-emptied : Emptied ≡ decisionOf (getD nodes i 0) max stride → Put (plain [] (E ∷ []) ∷ []) nodes₀ a rows₀ b nodes₁ rows₁ → Put (truncated max stride d E ∷ []) nodes₀ a rows₀ b nodes₁ rows₁
   made-emptied e p = let s = says max stride h e in made (truncated-emptied max stride d E (s .0) (s .1)) p
 
-  pub made-cut : {count : ℕ} → Windows count ≡ decisionOf (getD nodes i 0) max stride → Put (gathered (map (part (E .rows)) (windowsOf (getD nodes i 0) max stride d)) ∷ []) nodes₀ a rows₀ b nodes₁ rows₁ → Put (truncated max stride d E ∷ []) nodes₀ a rows₀ b nodes₁ rows₁
-  made-cut e p = made (truncated-cut max stride d E (says max stride h e .0)) (subst (λ (n : ℕ). Put (gathered (map (part (E .rows)) (windowsOf n max stride d)) ∷ []) nodes₀ a rows₀ b nodes₁ rows₁) (here-size h) p)
+  pub made-cut : {count : ℕ} → Windows count ≡ decisionOf (getD nodes i 0) max stride → Put (gathered (map (stretchOf (E .rows)) (windowsOf (getD nodes i 0) max stride d)) ∷ []) nodes₀ a rows₀ b nodes₁ rows₁ → Put (truncated max stride d E ∷ []) nodes₀ a rows₀ b nodes₁ rows₁
+  made-cut e p = made (truncated-cut max stride d E (says max stride h e .0)) (subst (λ (n : ℕ). Put (gathered (map (stretchOf (E .rows)) (windowsOf n max stride d)) ∷ []) nodes₀ a rows₀ b nodes₁ rows₁) (here-size h) p)

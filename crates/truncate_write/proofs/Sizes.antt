@@ -19,7 +19,7 @@ use Rattle.cut_plan.proofs.Windows.{windows-count, windows-rows}
 use Rattle.cut_plan.proofs.Laws.{windows-sized}
 use Rattle.cut_plan.proofs.Decides.{Refuses, Says, decided}
 use Rattle.lists.proofs.All.{all-imp}
-use Rattle.cut_windows.specs.Made.{plain, part, gathered}
+use Rattle.cut_windows.specs.Made.{plain, stretchOf, gathered}
 use Rattle.truncate_size.specs.Size.{strideRefused, sizeCut, sizeAfter}
 use Rattle.truncate_write.specs.Truncated.{truncated}
 use Rattle.record_extent.specs.Size.{extent, sizeOf}
@@ -36,7 +36,7 @@ module _ (max stride : ℕ) (d : Direction) (E : Encoding) where
   unfolding truncated
   truncated-emptied e h = rw (lt-leb (length (E .rows)) max (omega arith), eq-eqb max 0 e)
 
-  pub truncated-cut : Cuts (length (E .rows)) max stride → truncated max stride d E ≡ gathered (map (part (E .rows)) (windowsOf (length (E .rows)) max stride d))
+  pub truncated-cut : Cuts (length (E .rows)) max stride → truncated max stride d E ≡ gathered (map (stretchOf (E .rows)) (windowsOf (length (E .rows)) max stride d))
   unfolding truncated
   truncated-cut u = rw (lt-leb (length (E .rows)) max (u .fewer), ne-eqb max 0 (λ e. omega (arith, u .less)))
 
@@ -50,7 +50,7 @@ pub same-extent : {n n′ r r′ l l′ : ℕ} → n ≡ n′ → r ≡ r′ →
 same-extent a b c j = extent (a j) (b j) (c j)
 
 -- windows, two or more of them
-gathered-size : (R : List Row) (bs : List Bounds) → All (Inside (length R)) bs → 2 ≤ length bs → sizeOf (forest (gathered (map (part R) bs) ∷ [])) ≡ extent (length bs) (rowsOf bs) 2
+gathered-size : (R : List Row) (bs : List Bounds) → All (Inside (length R)) bs → 2 ≤ length bs → sizeOf (forest (gathered (map (stretchOf R) bs) ∷ [])) ≡ extent (length bs) (rowsOf bs) 2
 gathered-size R [] h k = absurd (omega arith)
 gathered-size R (b ∷ []) h k = absurd (omega arith)
 gathered-size R (b ∷ c ∷ bs) (h, hs) k =

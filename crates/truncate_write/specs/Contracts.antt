@@ -25,7 +25,7 @@ pub record AskCopy (nodes rows : List ℕ) (i j : ℕ) (own : Extent) (nodes′ 
   pub rows-fit : b + own .rows * rowWidth ≤ length rows′
 
 -- an encoding that holds `own` stands there, its cut is not refused, and from a and b on there is room for what it makes
-pub record Ask (nodes rows : List ℕ) (i j : ℕ) (own : Extent) (max stride : ℕ) (nodes′ : List ℕ) (a : ℕ) (rows′ : List ℕ) (b : ℕ) : Type 0 where
+pub record AskTruncating (nodes rows : List ℕ) (i j : ℕ) (own : Extent) (max stride : ℕ) (nodes′ : List ℕ) (a : ℕ) (rows′ : List ℕ) (b : ℕ) : Type 0 where
   pub E : Encoding
   pub here : Here nodes rows i j (forest (E ∷ []))
   pub measured : own ≡ sizeOf (forest (E ∷ []))

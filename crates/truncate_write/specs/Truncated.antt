@@ -6,7 +6,7 @@ use mathlib.Core.List.{[], _∷_, map}
 use lib.Dec.{leb, eqb}
 use lib.ListN.{length}
 use Rattle.record.specs.Tree.{Encoding}
-use Rattle.cut_windows.specs.Made.{plain, part, gathered}
+use Rattle.cut_windows.specs.Made.{plain, stretchOf, gathered}
 use Rattle.cut_plan.specs.Cut.{windowsOf}
 use Rattle.cut_plan.specs.declared.Direction.{Direction}
 
@@ -16,4 +16,4 @@ unfoldable pub truncated : ℕ → ℕ → Direction → Encoding → Encoding
 truncated max stride d E =
     cond (leb (length (E .rows)) max) E
     (cond (eqb max 0) (plain [] (E ∷ []))
-    (gathered (map (part (E .rows)) (windowsOf (length (E .rows)) max stride d))))
+    (gathered (map (stretchOf (E .rows)) (windowsOf (length (E .rows)) max stride d))))

@@ -3,7 +3,7 @@ ghost use mathlib.Core.List.{[], _∷_};
 ghost use Prim.Native.Nat.{_+_};
 ghost use Rattle.cut_windows.specs.Made.{plain};
 ghost use Rattle.record.specs.Flat.{nodeWidth};
-ghost use Rattle.truncate_write.specs.Contracts.{Makes, AskCopy, Ask};
+ghost use Rattle.truncate_write.specs.Contracts.{Makes, AskCopy, AskTruncating};
 ghost use Rattle.truncate_write.specs.Truncated.{truncated};
 use cut_plan::Decision;
 use cut_plan::Direction;
@@ -66,7 +66,7 @@ pub fn write_truncated(
     out_rows: &mut [u32],
     b: usize,
 )
-    requires { ⌜ Ask (now nodes) (now rows) i j own max stride (now «out_nodes») a (now «out_rows») b ⌝ }
+    requires { ⌜ AskTruncating (now nodes) (now rows) i j own max stride (now «out_nodes») a (now «out_rows») b ⌝ }
     ensures { λ _. ⌜ Makes (truncated max stride direction) (now (nodes .entry)) (now (rows .entry)) i j own
         (now («out_nodes» .entry)) a (now («out_rows» .entry)) b (now («out_nodes» .exit)) (now («out_rows» .exit)) ⌝ }
 {

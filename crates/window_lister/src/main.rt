@@ -6,7 +6,7 @@
 // standard error.
 ghost use mathlib.Core.Path.{_≡_};
 ghost use Rattle.io.specs.Counts.{Counts};
-ghost use Rattle.listing.specs.Contracts.{Room, Ready};
+ghost use Rattle.listing.specs.Contracts.{LineRoom, ReadyOutput};
 use input::Line;
 use input::PIECE;
 use input::Unread;
@@ -32,7 +32,7 @@ fn main() {
 // Answers all of the input. A proved loop has to end, and nothing says that an input does: so the turns are counted down, from
 // a number that no run uses up.
 fn list_input(piece: &mut [u8; PIECE], line: &mut [u8; LINE], out: &mut [u8])
-    requires { ⌜ Ready (now out) 0 ⌝ }
+    requires { ⌜ ReadyOutput (now out) 0 ⌝ }
 {
     let mut unread = input::start();
     let mut waiting = waits(0);
@@ -74,8 +74,8 @@ fn asked(line: &[u8], next: Line) -> Asked
 
 // Puts an answer behind what waits.
 fn answer(asked: Asked, out: &mut [u8], waiting: usize) -> Waiting
-    requires { ⌜ Ready (now out) waiting ⌝ }
-    ensures { λ r. ⌜ Ready (now (out .exit)) (r .bytes) ⌝ }
+    requires { ⌜ ReadyOutput (now out) waiting ⌝ }
+    ensures { λ r. ⌜ ReadyOutput (now (out .exit)) (r .bytes) ⌝ }
 {
     let room = make_room(out, waiting);
     if room.failed {
@@ -90,8 +90,8 @@ fn answer(asked: Asked, out: &mut [u8], waiting: usize) -> Waiting
 
 // Puts the windows behind what waits, in as many blocks as they need.
 fn list_windows(request: Request, out: &mut [u8], waiting: usize) -> Waiting
-    requires { ⌜ Ready (now out) waiting ⌝ }
-    ensures { λ r. ⌜ Ready (now (out .exit)) (r .bytes) ⌝ }
+    requires { ⌜ ReadyOutput (now out) waiting ⌝ }
+    ensures { λ r. ⌜ ReadyOutput (now (out .exit)) (r .bytes) ⌝ }
 {
     let count = listing::count(request);
     let mut next: u32 = 0;
@@ -110,8 +110,8 @@ fn list_windows(request: Request, out: &mut [u8], waiting: usize) -> Waiting
 
 // The place behind what waits, once there is room for a line after it.
 fn make_room(out: &[u8], waiting: usize) -> Waiting
-    requires { ⌜ Ready (now out) waiting ⌝ }
-    ensures { λ r. ⌜ Room (now (out .entry)) (r .bytes) ⌝ }
+    requires { ⌜ ReadyOutput (now out) waiting ⌝ }
+    ensures { λ r. ⌜ LineRoom (now (out .entry)) (r .bytes) ⌝ }
 {
     if out.len() - waiting < listing::LONGEST {
         let written = output::print(&out[..waiting]);
@@ -125,7 +125,7 @@ fn make_room(out: &[u8], waiting: usize) -> Waiting
 
 // Writes what waits once the input has ended. After a read that failed standard error has a line already.
 fn finish(out: &[u8], waiting: usize, unread: Unread)
-    requires { ⌜ Ready (now out) waiting ⌝ }
+    requires { ⌜ ReadyOutput (now out) waiting ⌝ }
 {
     if unread.failed {
         output::write(&out[..waiting]);

@@ -13,13 +13,13 @@ use Rattle.record.specs.Tree.{Forest, forest}
 use Rattle.record.specs.Flat.{nodeWidth}
 use Rattle.record.specs.WellFormed.{nodesIn}
 use Rattle.join_levels.specs.Levels.{Profiled}
-use Rattle.fold_levels.specs.Contracts.{Holds}
+use Rattle.fold_levels.specs.Contracts.{HoldsNodes}
 use Rattle.fold_levels.proofs.Folded.{Stepped, stepped-start, stepped-profiled, Next, next, next-some, next-room, stepped-more, stepped-stop, stepped-end}
 use Rattle.fold_levels.proofs.folded_profile.Statement.{statement}
 use Rattle.fold_levels.proofs.folded_profile.Tie as tie
 
 abbrev Inv-loop : tie.InvT-loop
-Inv-loop nodes so-far₀ i₀ so-far i = (g : Bool) (f : Forest) → Holds nodes f → Stepped g nodes f so-far i
+Inv-loop nodes so-far₀ i₀ so-far i = (g : Bool) (f : Forest) → HoldsNodes nodes f → Stepped g nodes f so-far i
 
 abbrev μ-loop : tie.MeasureT-loop
 μ-loop nodes so-far₀ i₀ so-far i = length nodes - i
@@ -28,7 +28,7 @@ abbrev Nodes : tie.At-loop Inv-loop μ-loop → List ℕ
 Nodes c = now (c .before .before .before .args .nodes)
 
 -- in the loop an encoding is next
-ahead : (c : tie.In-loop Inv-loop μ-loop) (g : Bool) (f : Forest) → Holds (Nodes (c .before)) f → Next g (Nodes (c .before)) f (c .before .loop .so-far) (c .before .loop .i)
+ahead : (c : tie.In-loop Inv-loop μ-loop) (g : Bool) (f : Forest) → HoldsNodes (Nodes (c .before)) f → Next g (Nodes (c .before)) f (c .before .loop .so-far) (c .before .loop .i)
 ahead c g f h = next (c .before .loop .inv g f h) (c .loop-test .taken)
 
 -- that of the batch that is known to be held
@@ -68,7 +68,7 @@ nodes-in-requires c κs = profiled (c .before .before .before .before)
 -- the nodes of the encoding that was joined
 counted : (c : tie.After-nodes-in Inv-loop μ-loop) (g : Bool) (f : Forest) →
     let l = c .before .before .before .before .before .before in
-    (h : Holds (Nodes (l .before)) f) → c .nodes-in .result ≡ nodesIn (forest (ahead l g f h .E ∷ []))
+    (h : HoldsNodes (Nodes (l .before)) f) → c .nodes-in .result ≡ nodesIn (forest (ahead l g f h .E ∷ []))
 counted c g f h =
     let n = ahead (c .before .before .before .before .before .before) g f h in
     c .nodes-in .ensures (n .E) (c .before .before .before .before .before .profile-at .ensures (n .E) (n .stands))

@@ -5,7 +5,7 @@ use lib.ListN.{length, take, drop, length-take, length-drop}
 use native.Mathlib.Omega.{arith}
 use borrow.Author.Needs.{needs}
 use Rattle.lists.proofs.Sets.{sets-part}
-use Rattle.join_add.specs.Contracts.{added}
+use Rattle.join_add.specs.Contracts.{sums}
 use Rattle.join_add.proofs.Added.{length-added, part-at}
 use Rattle.join_add.proofs.add_at.Statement.{statement}
 use Rattle.join_add.proofs.add_at.Tie as tie
@@ -64,7 +64,7 @@ returns c =
     let k : v .from + v .m - v .from ≡ v .m = omega arith in
     let own : length (take (v .m) (drop (v .from) (v .src .now))) ≡ v .m = simp (length-take, length-drop) (omega arith) in
     let long = length-added (take (v .m) (drop (v .from) (v .src .now))) (v .more .now) (omega (arith, own)) in
-    sets-part (v .dst .now) _ (added (take (v .m) (drop (v .from) (v .src .now))) (v .more .now)) (v .at) (v .m) (omega arith) (long ∙ own) (rw k at e)
+    sets-part (v .dst .now) _ (sums (take (v .m) (drop (v .from) (v .src .now))) (v .more .now)) (v .at) (v .m) (omega arith) (long ∙ own) (rw k at e)
 
 pub add-at-spec : {M : Type 1} → statement M
 add-at-spec =

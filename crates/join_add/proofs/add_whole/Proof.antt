@@ -7,19 +7,19 @@ use lib.Seq.{paste, paste-zero}
 use borrow.Author.Needs.{needs}
 use native.Mathlib.Omega.{arith}
 use Rattle.lists.proofs.Sets.{copy-turn, copy-all}
-use Rattle.join_add.specs.Contracts.{added}
+use Rattle.join_add.specs.Contracts.{sums}
 use Rattle.join_add.proofs.Added.{length-added, getD-added}
 use Rattle.join_add.proofs.add_whole.Statement.{statement}
 use Rattle.join_add.proofs.add_whole.Tie as tie
 
 abbrev Inv-loop : tie.InvT-loop
-Inv-loop src more dst₀ i₀ dst i = (i ≤ length src) × (dst ≡ paste dst₀ 0 (added src more) i) × (length dst ≡ length dst₀)
+Inv-loop src more dst₀ i₀ dst i = (i ≤ length src) × (dst ≡ paste dst₀ 0 (sums src more) i) × (length dst ≡ length dst₀)
 
 abbrev μ-loop : tie.MeasureT-loop
 μ-loop src more dst₀ i₀ dst i = length src - i
 
 loop-holds : tie.Need-loop-holds Inv-loop μ-loop
-loop-holds c = (search needs, paste-zero (c .args .dst .now) 0 (added (c .args .src .now) (c .args .more .now)), refl)
+loop-holds c = (search needs, paste-zero (c .args .dst .now) 0 (sums (c .args .src .now) (c .args .more .now)), refl)
 
 mul-dst : tie.Need-mul-dst Inv-loop μ-loop
 mul-dst c = search needs
@@ -54,7 +54,7 @@ loop-again c =
     let v = at-loop .before .args in
     let i = at-loop .loop .i in
     let enough = at-loop .before .pre .enough in
-    let sums = added (v .src .now) (v .more .now) in (
+    let sums = sums (v .src .now) (v .more .now) in (
       search needs,
       ap (λ (l : List ℕ). set l i (getD (v .src .now) i 0 + getD (v .more .now) i 0)) (at-loop .loop .inv .1)
           ∙ ap (λ (s : ℕ). set (paste (v .dst .now) 0 sums i) i s) (sym (getD-added (v .src .now) (v .more .now) i (omega arith) enough))
@@ -70,7 +70,7 @@ returns c =
     let at-loop = c .before in
     let v = at-loop .before .args in
     let long = length-added (v .src .now) (v .more .now) (at-loop .before .pre .enough) in
-    at-loop .loop .inv .1 ∙ copy-all (v .dst .now) (added (v .src .now) (v .more .now)) (at-loop .loop .i) (long ∙ at-loop .before .pre .room) (omega (arith, long))
+    at-loop .loop .inv .1 ∙ copy-all (v .dst .now) (sums (v .src .now) (v .more .now)) (at-loop .loop .i) (long ∙ at-loop .before .pre .room) (omega (arith, long))
 
 pub add-whole-spec : {M : Type 1} → statement M
 add-whole-spec =

@@ -5,19 +5,19 @@ use native.Mathlib.Omega.{arith}
 use mathlib.Core.Path.{_≡_, sym}
 use Prim.Native.Nat.{_+_, _-_, _≤_}
 use borrow.Author.Tests.{le-leb, lt-leb}
-use Rattle.join_table.specs.Table.{at, below}
+use Rattle.join_table.specs.Table.{at, sumBelow}
 use Rattle.join_table.proofs.Numbers.{below-past, below-left, below-end}
 use Rattle.join_levels.proofs.within.Statement.{statement}
 use Rattle.join_levels.proofs.within.Tie as tie
 
 abbrev Inv-loop : tie.InvT-loop
-Inv-loop n limit a left₀ i₀ left i = (i ≤ n) × (left + below i (at a) ≡ limit)
+Inv-loop n limit a left₀ i₀ left i = (i ≤ n) × (left + sumBelow i (at a) ≡ limit)
 
 abbrev μ-loop : tie.MeasureT-loop
 μ-loop n limit a left₀ i₀ left i = n - i
 
 loop-holds : tie.Need-loop-holds Inv-loop μ-loop
-unfolding below
+unfolding sumBelow
 loop-holds c = (search needs, omega arith)
 
 mul-x : tie.Need-mul-x Inv-loop μ-loop

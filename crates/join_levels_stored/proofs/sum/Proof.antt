@@ -4,19 +4,19 @@ use Prim.Native.Nat.{_-_, _*_, _≤_}
 use native.Mathlib.Omega.{arith}
 use borrow.Author.Needs.{needs}
 use Rattle.record.specs.WellFormed.{mostRows}
-use Rattle.join_table.specs.Table.{levelCount, at, below}
+use Rattle.join_table.specs.Table.{levelCount, at, sumBelow}
 use Rattle.join_table.proofs.Numbers.{below-next}
 use Rattle.join_levels_stored.proofs.sum.Statement.{statement}
 use Rattle.join_levels_stored.proofs.sum.Tie as tie
 
 abbrev Inv-loop : tie.InvT-loop
-Inv-loop a all₀ i₀ all i = (i ≤ levelCount) × (all ≡ below i (at a)) × (all ≤ i * mostRows)
+Inv-loop a all₀ i₀ all i = (i ≤ levelCount) × (all ≡ sumBelow i (at a)) × (all ≤ i * mostRows)
 
 abbrev μ-loop : tie.MeasureT-loop
 μ-loop a all₀ i₀ all i = levelCount - i
 
 loop-holds : tie.Need-loop-holds Inv-loop μ-loop
-unfolding below
+unfolding sumBelow
 loop-holds c = (omega arith, refl, omega arith)
 
 mul-all : tie.Need-mul-all Inv-loop μ-loop

@@ -1,7 +1,7 @@
 -- `set_types` sets the type of each row: after i turns, of the first i. Assumes nothing.
 use Prim.Native.Nat.{_-_}
 use lib.ListN.{length-set}
-use Rattle.join_view.specs.View.{typed}
+use Rattle.join_view.specs.View.{typedRow}
 use Rattle.join_rows.proofs.Turning.{Turning, turning-start, turning-on, turning-end, typed-there}
 use borrow.Author.Needs.{needs}
 use native.Mathlib.Omega.{arith}
@@ -9,7 +9,7 @@ use Rattle.join_rows.proofs.set_types.Statement.{statement}
 use Rattle.join_rows.proofs.set_types.Tie as tie
 
 abbrev Inv-loop : tie.InvT-loop
-Inv-loop rows₀ at count type-id place₀ i₀ rows place i = Turning (typed type-id) rows₀ at count rows place i
+Inv-loop rows₀ at count type-id place₀ i₀ rows place i = Turning (typedRow type-id) rows₀ at count rows place i
 
 abbrev μ-loop : tie.MeasureT-loop
 μ-loop rows₀ at count type-id place₀ i₀ rows place i = count - i

@@ -2,7 +2,7 @@
 use mathlib.Core.Path.{refl, subst}
 use borrow.Author.Needs.{needs}
 use Rattle.record.proofs.Working.{with-refused}
-use Rattle.process_check.specs.Contracts.{Decides}
+use Rattle.process_check.specs.Contracts.{DecidesProcess}
 use Rattle.process.proofs.process.Statement.{statement}
 use Rattle.process.proofs.process.Tie as tie
 
@@ -24,12 +24,12 @@ slice-aggregate-apply-steps c = search needs
 apply-steps-requires : tie.Need-apply-steps-requires
 apply-steps-requires c κs =
     let m = c .before .before .before .before .before .before in
-    let d = subst (Decides _ _ _ _ _ _) (m .decision2 .given .1) (m .before .before .before .decide .ensures) in
+    let d = subst (DecidesProcess _ _ _ _ _ _) (m .decision2 .given .1) (m .before .before .before .decide .ensures) in
     record { E = d .E; second = d .second; steps = d .steps; steps-here = d .steps-here }
 
 returns : tie.Need-returns
 returns c =
-    let d = subst (Decides _ _ _ _ _ _) (c .before .decision .given .1) (c .before .before .before .before .decide .ensures) in
+    let d = subst (DecidesProcess _ _ _ _ _ _) (c .before .decision .given .1) (c .before .before .before .before .decide .ensures) in
     with-refused _ (d .told _ _ _ _) (d .not-six) refl refl refl refl refl
 
 same-length : tie.Need-same-length
@@ -48,7 +48,7 @@ returns-2 : tie.Need-returns-2
 returns-2 c =
     let a = c .before .before .before .before .before .before .before .before in
     let m = a .before .before .before .before .before .before .before in
-    let d = subst (Decides _ _ _ _ _ _) (m .decision2 .given .1) (m .before .before .before .decide .ensures) in
+    let d = subst (DecidesProcess _ _ _ _ _ _) (m .decision2 .given .1) (m .before .before .before .decide .ensures) in
     rw (d .folded) (a .apply-steps .ensures (d .E) (d .second) (d .steps) (d .steps-here))
 
 pub process-spec : {M : Type 1} → statement M

@@ -2,7 +2,7 @@
 use native.Mathlib.Omega.{arith}
 use denote.Ref.{now}
 use borrow.Author.Needs.{needs}
-use Rattle.record_fields.specs.Contracts.{NodeAt, NodeFits}
+use Rattle.record_fields.specs.Contracts.{RangesOk, NodeFits}
 use Rattle.record_fields.proofs.Decides.{decides-also}
 use Rattle.record_fields.proofs.node_fits.Statement.{statement}
 use Rattle.record_fields.proofs.node_fits.Tie as tie
@@ -34,7 +34,7 @@ node-ok-requires c κs = search needs
 returns-3 : tie.Need-returns-3
 returns-3 c =
     let args = c .before .before .before .before .before .before .args in
-    let fits : NodeAt (now (args .nodes)) (args .i) → NodeFits (now (args .nodes)) (args .i) (args .room) = λ n. record { whole = omega arith; rows = omega (arith, c .before .before .wide .ensures, c .before .if2 .left); fine = n } in
+    let fits : RangesOk (now (args .nodes)) (args .i) → NodeFits (now (args .nodes)) (args .i) (args .room) = λ n. record { whole = omega arith; rows = omega (arith, c .before .before .wide .ensures, c .before .if2 .left); fine = n } in
     decides-also (c .node-ok .result) fits (λ f. f .fine) (c .node-ok .ensures)
 
 pub node-fits-spec : {M : Type 1} → statement M

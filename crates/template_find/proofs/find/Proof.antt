@@ -3,7 +3,7 @@ use mathlib.Core.Path.{ap, sym, _∙_}
 use native.Mathlib.Omega.{arith}
 use denote.Ref.{now}
 use Rattle.template_entries.specs.Table.{noEntry, entriesIn}
-use Rattle.template_find.specs.Contracts.{entryHasId, foundAnswer}
+use Rattle.template_find.specs.Contracts.{entryHasId, entryAnswer}
 use Rattle.template_entries.proofs.Entries.{entries-number}
 use Rattle.template_find.proofs.Finding.{Searching, search-start, search-on, search-found, search-end}
 use borrow.Author.Needs.{needs}
@@ -26,8 +26,8 @@ has-id-requires : tie.Need-has-id-requires Inv-loop μ-loop
 has-id-requires c κs = record { ids = c .before .before .before .before .before .pre; among = omega (arith, c .before .loop .inv .inside, entries-number (now (c .before .before .before .before .before .args .entries))) }
 
 returns : tie.Need-returns Inv-loop μ-loop
-unfolding foundAnswer
-returns c = ap foundAnswer (sym (search-found _ _ _ (c .before .before .before .loop .inv) (c .before .before .loop-test .taken) (sym (c .before .has-id .ensures) ∙ c .if1 .taken)))
+unfolding entryAnswer
+returns c = ap entryAnswer (sym (search-found _ _ _ (c .before .before .before .loop .inv) (c .before .before .loop-test .taken) (sym (c .before .has-id .ensures) ∙ c .if1 .taken)))
 
 loop-less : tie.Need-loop-less Inv-loop μ-loop
 loop-less c = search needs
@@ -36,8 +36,8 @@ loop-again : tie.Need-loop-again Inv-loop μ-loop
 loop-again c = search-on _ _ _ (c .before .before .before .loop .inv) (c .before .before .loop-test .taken) (sym (c .before .has-id .ensures) ∙ c .if1 .left)
 
 returns-2 : tie.Need-returns-2 Inv-loop μ-loop
-unfolding foundAnswer
-returns-2 c = ap foundAnswer (sym (search-end _ _ _ (c .before .loop .inv) (c .loop-test .left)))
+unfolding entryAnswer
+returns-2 c = ap entryAnswer (sym (search-end _ _ _ (c .before .loop .inv) (c .loop-test .left)))
 
 pub find-spec : {M : Type 1} → statement M
 find-spec =

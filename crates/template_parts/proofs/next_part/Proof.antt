@@ -11,7 +11,7 @@ use contract.Running.{givenOf, tables, tablesOf}
 use denote.Memory.{mem}
 use denote.Enum.Laws as EL
 use denote.Struct.Laws as LL
-use Rattle.template_parts.specs.Parts.{stepAt}
+use Rattle.template_parts.specs.Parts.{partStepAt}
 use Rattle.template_parts.specs.declared.PartStep.{PartStep}
 use Rattle.template_parts.specs.declared.TemplatePlace.{TemplatePlace}
 use Rattle.template_parts.proofs.PartAnswer as S
@@ -54,7 +54,7 @@ module _ {M : Type 1} (𝓤 : URA M) (H : Heap 𝓤) (A : Atoms 𝓤) (W : Given
   Own = ShrSlice (named 0) κ u8 .own s (v ∷ [])
 
   abbrev found : PartStep
-  found = stepAt (now s) (h .at)
+  found = partStepAt (now s) (h .at)
 
   abbrev moved : PartStep → TemplatePlace
   moved r = record { at = r .next }

@@ -9,7 +9,7 @@ use contract.Running.{givenOf, tables, tablesOf}
 use denote.Memory.{mem, cellAt, partOf}
 use denote.Enum.Laws as EL
 use denote.Struct.Laws as LL
-use Rattle.template_parts.specs.Parts.{stepAt}
+use Rattle.template_parts.specs.Parts.{partStepAt}
 use Rattle.template_parts.specs.declared.PartAnswer.{PartAnswer}
 use Rattle.template_parts.specs.declared.PartStep.{PartStep}
 use Rattle.template_parts.specs.declared.TemplatePlace.{TemplatePlace}
@@ -67,7 +67,7 @@ module _ {M : Type 1} (𝓤 : URA M) (H : Heap 𝓤) (A : Atoms 𝓤) (W : Given
 
   -- what `next_part` says of its answer r and of the place's last value
   abbrev Said : PartAnswer → TemplatePlace → Type 0
-  Said r w = (r ≡ stepAt (now s) n .answer) × (w .at ≡ stepAt (now s) n .next)
+  Said r w = (r ≡ partStepAt (now s) n .answer) × (w .at ≡ partStepAt (now s) n .next)
 
   -- the step that is returned
   abbrev step : PartAnswer → ℕ → PartStep
@@ -78,7 +78,7 @@ module _ {M : Type 1} (𝓤 : URA M) (H : Heap 𝓤) (A : Atoms 𝓤) (W : Given
       let i = LL.owes P.the-type P′.the-laws (step r m) (subst (Is S.the-row r) (EL.tells S.the-type S′.the-laws r (u ∷ []) is) is, ((refl, f), tt)) in
       subst (Is P.the-row (step r m)) (P′.lowers .val-is (step r m) _ i) i
 
-  exits : (r : PartAnswer) (m : ℕ) → Is P.the-row (step r m) (P′.lowered (step r m) ∷ []) → step r m ≡ stepAt (now s) n → ent 𝓤 (⋆ 𝓤 H A (‵ (flft κ q) ∷ ‵ Own ∷ [])) (Post (P′.lowered (step r m)))
+  exits : (r : PartAnswer) (m : ℕ) → Is P.the-row (step r m) (P′.lowered (step r m) ∷ []) → step r m ≡ partStepAt (now s) n → ent 𝓤 (⋆ 𝓤 H A (‵ (flft κ q) ∷ ‵ Own ∷ [])) (Post (P′.lowered (step r m)))
   exits r m is e =
       qed W (‵ (flft κ q) ∷ ‵ Own ∷ []) ∵
       suffices ! _ (ends-at 𝓤 H A part-from.ended stayed (part-from.clauses 𝓤 H A at-mem run) W (((κ, tt), (q, tt), tt, (s, (n, tt)), (v ∷ [], (vint w64 n ∷ [], tt))), tt) (P′.lowered (step r m)) (step r m) (tt, (tt, tt)) (tt, (tt, tt))) $ says ! e $

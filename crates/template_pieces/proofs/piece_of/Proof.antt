@@ -6,7 +6,7 @@ use lib.ListN.{length, take, drop}
 use lib.Seq.{length-take-le}
 use denote.Ref.{now}
 use Rattle.template_numbers.specs.Number.{readNumber}
-use Rattle.template_pieces.specs.Piece.{named, withType, readPart, pieceAnswer}
+use Rattle.template_pieces.specs.Piece.{named, pieceTyped, readPart, pieceAnswer}
 use Rattle.template_pieces.proofs.Piece.{no-colon, typed-part, typed-none, typed-bad, typed-some}
 use borrow.Author.Needs.{needs}
 use Rattle.template_pieces.proofs.piece_of.Statement.{statement}
@@ -24,7 +24,7 @@ parted : (c : tie.Else1)
     → let start = Began c .args .start in
     let part = now (Began c .args .part) in
     let end = Found c .find .result in
-    readPart start part ≡ withType (readNumber (take (length part - (end + 1)) (drop (end + 1) part))) (named start (take end part))
+    readPart start part ≡ pieceTyped (readNumber (take (length part - (end + 1)) (drop (end + 1) part))) (named start (take end part))
 parted c = typed-part _ _ (Found c .find .ensures) (omega (arith, Found c .find .ensures .inside, c .if1 .left))
 
 find-requires : tie.Need-find-requires

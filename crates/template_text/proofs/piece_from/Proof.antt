@@ -2,7 +2,7 @@
 use mathlib.Core.Path.{_≡_, ap, sym, _∙_}
 use denote.Ref.{now}
 use borrow.Author.Needs.{needs}
-use Rattle.template_parts.specs.Parts.{stepAt}
+use Rattle.template_parts.specs.Parts.{partStepAt}
 use Rattle.template_parts.specs.declared.PartAnswer.the-variants.{Part}
 use Rattle.template_parts.specs.declared.PartStep.{PartStep}
 use Rattle.template_parts.proofs.Parts.{part-found}
@@ -12,7 +12,7 @@ use Rattle.template_text.proofs.piece_from.Tie as tie
 
 -- the part that was found
 found : (c : tie.After-answer)
-    → stepAt (now (c .before .before .before .before .args .text)) (c .before .before .before .before .args .at) .answer ≡ Part (c .answer .given .0 .0) (c .answer .given .0 .1 .0)
+    → partStepAt (now (c .before .before .before .before .args .text)) (c .before .before .before .before .args .at) .answer ≡ Part (c .answer .given .0 .0) (c .answer .given .0 .1 .0)
 found c = sym (ap (λ (s : PartStep). s .answer) (c .before .before .part-from .ensures)) ∙ c .answer .given .1
 
 part-from-requires : tie.Need-part-from-requires

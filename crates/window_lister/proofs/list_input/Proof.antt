@@ -2,13 +2,13 @@
 -- are left. Assumes nothing.
 use mathlib.Core.Path.{_≡_}
 use lib.ListN.{length}
-use Rattle.listing.specs.Contracts.{Ready}
+use Rattle.listing.specs.Contracts.{ReadyOutput}
 use borrow.Author.Needs.{needs}
 use Rattle.window_lister.proofs.list_input.Statement.{statement}
 use Rattle.window_lister.proofs.list_input.Tie as tie
 
 abbrev Inv-loop : tie.InvT-loop
-Inv-loop piece₀ line₀ out₀ unread₀ waiting₀ turns₀ piece line out unread waiting turns = Ready out (waiting .bytes) × (length out ≡ length out₀)
+Inv-loop piece₀ line₀ out₀ unread₀ waiting₀ turns₀ piece line out unread waiting turns = ReadyOutput out (waiting .bytes) × (length out ≡ length out₀)
 
 abbrev μ-loop : tie.MeasureT-loop
 μ-loop piece₀ line₀ out₀ unread₀ waiting₀ turns₀ piece line out unread waiting turns = turns

@@ -4,13 +4,13 @@ use Prim.Native.Nat.{_-_}
 use native.Mathlib.Omega.{arith}
 use lib.ListN.{length}
 use borrow.Author.Needs.{needs}
-use Rattle.listing.specs.Contracts.{Ready}
+use Rattle.listing.specs.Contracts.{ReadyOutput}
 use Rattle.listing.proofs.Lines.{lists-move}
 use Rattle.window_lister.proofs.list_windows.Statement.{statement}
 use Rattle.window_lister.proofs.list_windows.Tie as tie
 
 abbrev Inv-loop : tie.InvT-loop
-Inv-loop request out₀ waiting count next₀ place₀ out next place = Ready out place × (length out ≡ length out₀)
+Inv-loop request out₀ waiting count next₀ place₀ out next place = ReadyOutput out place × (length out ≡ length out₀)
 
 abbrev μ-loop : tie.MeasureT-loop
 μ-loop request out₀ waiting count next₀ place₀ out next place = count - next
