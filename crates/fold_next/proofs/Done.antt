@@ -16,19 +16,13 @@ use Rattle.record.proofs.Flat.{length-nodes}
 use Rattle.record.proofs.Tree.{forest-listed}
 use Rattle.record.proofs.Counts.{nodes-append}
 use Rattle.record.proofs.Here.{here-rows-fit}
-use Rattle.join_trees.specs.Join.{join, foldFrom}
+use Rattle.join_trees.specs.Join.{foldFrom}
 use Rattle.join_trees.specs.Offsets.{offsetsFit}
 use Rattle.join_trees.proofs.Folds.{foldFrom-append}
-use Rattle.join_trees.proofs.Offsets.{OffsetsFit, tells-offsets, join-fits-left}
+use Rattle.join_trees.proofs.Offsets.{tells-offsets, fold-fits-back}
 use Rattle.join_trees.proofs.Sizes.{NoMore, fold-no-less}
 use Rattle.fold_next.specs.Contracts.{AskNext, Folded}
 use Rattle.fold_next.proofs.Split.{here-firsts, here-rest}
-
--- ---- What holds of the whole fold holds of its first steps
-
-fits-back : (g : Bool) (S : Encoding) (Ps : List Encoding) → OffsetsFit (forest (foldFrom g S Ps ∷ [])) → OffsetsFit (forest (S ∷ []))
-fits-back g S [] h = h
-fits-back g S (P ∷ Ps) h = join-fits-left g S P (fits-back g (join g S P) Ps h)
 
 module _ {S : Encoding} {left : Forest} {nodes rows : List ℕ} {at : Spot} {g : Bool} {out out′ working working′ : List ℕ} (a : AskNext S left nodes rows at g out out′ working working′) where
   module _ (done : List Encoding) (rest : Forest) (split : listed left ≡ done ++ listed rest) where
@@ -43,7 +37,7 @@ module _ {S : Encoding} {left : Forest} {nodes rows : List ℕ} {at : Spot} {g :
     done-fits =
         let E = foldFrom g S done in
         let all = ap (λ (F : Encoding). offsetsFit (forest (F ∷ []))) (sym whole) ∙ a .within in
-        tells-offsets (forest (E ∷ [])) .back (fits-back g E (listed rest) (tells-offsets (forest (foldFrom g E (listed rest) ∷ [])) .so all))
+        tells-offsets (forest (E ∷ [])) .back (fold-fits-back g E (listed rest) (tells-offsets (forest (foldFrom g E (listed rest) ∷ [])) .so all))
 
     pub stands : Here nodes rows (at .node) (at .row) (forest (done ++ listed rest))
     stands = subst (λ (f : Forest). Here nodes rows (at .node) (at .row) f) (sym (forest-listed left) ∙ ap forest split) (a .here)

@@ -77,7 +77,8 @@ join-fits-still S P s p =
 -- ---- A fold
 
 module _ (g : Bool) where
-  fold-fits-back : (S : Encoding) (Ps : List Encoding) → OffsetsFit (forest (foldFrom g S Ps ∷ [])) → OffsetsFit (forest (S ∷ []))
+  -- what holds of the whole fold holds of its first steps
+  pub fold-fits-back : (S : Encoding) (Ps : List Encoding) → OffsetsFit (forest (foldFrom g S Ps ∷ [])) → OffsetsFit (forest (S ∷ []))
   fold-fits-back S [] h = h
   fold-fits-back S (P ∷ Ps) h = join-fits-left g S P (fold-fits-back (join g S P) Ps h)
 
