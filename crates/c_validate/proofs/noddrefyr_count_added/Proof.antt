@@ -8,6 +8,11 @@ use Rattle.c_validate.specs.Answers.{addedCrossed}
 use Rattle.c_validate.proofs.noddrefyr_count_added.Statement.{statement}
 use Rattle.c_validate.proofs.noddrefyr_count_added.Tie as tie
 
+-- ---- The places that others look back to
+
+abbrev start : tie.After-count-added → tie.Start
+start c = c .before .before .before .before .before .before
+
 which-of-requires : tie.Need-which-of-requires
 which-of-requires c κs = search needs
 
@@ -26,13 +31,13 @@ enum-known-found-2 c = search needs
 returns : tie.Need-returns
 returns c =
     let s = c .before .before .before .before in
-    let a = s .before .before .before .before .before .before .args in
+    let a = start s .args in
     rw (← s .before .which-of .ensures) (crosses (addedCrossed (now (a .count) ∷ [])) (s .count-added .ensures) (c .before .before .found .given .1) (c .number .ensures) refl)
 
 returns-2 : tie.Need-returns-2
 returns-2 c =
     let s = c .before .before .before in
-    let a = s .before .before .before .before .before .before .args in
+    let a = start s .args in
     rw (← s .before .which-of .ensures) (crosses (addedCrossed (now (a .count) ∷ [])) (s .count-added .ensures) (c .before .found2 .given .1) refl refl)
 
 pub noddrefyr-count-added-spec : {M : Type 1} → statement M

@@ -13,6 +13,11 @@ use Rattle.cut_lengths.proofs.Keeping.{both-nothing, both-within, both-
 use Rattle.cut_lengths.proofs.kept_both.Statement.{statement}
 use Rattle.cut_lengths.proofs.kept_both.Tie as tie
 
+-- ---- The places that others look back to
+
+abbrev start : tie.After-enum-told → tie.Start
+start c = c .before .before .before .before .before
+
 -- past the second test something must go
 over : (e : tie.Else2) → e .before .before .before .args .most < e .before .before .before .args .first + e .before .before .before .args .second
 over e = let v = e .before .before .before .args in leb-false (v .first + v .second) (v .most) (sym (e .before .within .ensures) ∙ e .if2 .left)
@@ -47,7 +52,7 @@ shorter-share-requires c κs = search needs
 returns-3 : tie.Need-returns-3
 returns-3 c =
     let t = c .before .before in
-    let v = t .before .before .before .before .before .before .args in
+    let v = start (t .before) .args in
     ap₂ Both (c .before .longer-share .ensures) (c .shorter-share .ensures)
     ∙ sym (cut (t .before .before .before) LongestFirst (t .before .enum-told .given .1) ∙ longest-second (v .first) (v .second) (v .most) (v .first + v .second - v .most) (t .if3 .taken))
 
@@ -88,7 +93,7 @@ returns-5 c =
 returns-6 : tie.Need-returns-6
 returns-6 c =
     let t = c .before .before in
-    let v = t .before .before .before .before .before .before .args in
+    let v = start (t .before) .args in
     ap₂ Both (c .before .shorter-share2 .ensures) (c .longer-share2 .ensures)
     ∙ sym (cut (t .before .before .before) LongestFirst (t .before .enum-told .given .1) ∙ longest-first (v .first) (v .second) (v .most) (v .first + v .second - v .most) (t .if3 .left))
 

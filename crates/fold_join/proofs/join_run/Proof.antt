@@ -19,6 +19,9 @@ use Rattle.fold_join.proofs.join_run.Tie as tie
 
 -- ---- The places: after a call, back to the one before it
 
+abbrev after-fold-each : tie.After-node3 → tie.After-fold-each
+after-fold-each c = c .before .before .before .before .before .before .before .before
+
 abbrev start : tie.After-measure → tie.Start
 start c = c .before .before .before .before .before .before .before .before
 
@@ -84,12 +87,12 @@ fold-each-requires c κs =
 
 slice-aggregate-join-after : tie.Need-slice-aggregate-join-after
 slice-aggregate-join-after c =
-    let f = c .before .before .before .before .before .before .before .before in
+    let f = after-fold-each c in
     sym (f .fold-each .kept .1 .1 .1 .0 ∙ node-long (emptied f))
 
 join-after-requires : tie.Need-join-after-requires
 join-after-requires c κs =
-    let f = c .before .before .before .before .before .before .before .before .before .before .before .before in
+    let f = after-fold-each (c .before .before .before .before) in
     let n = emptied f in
     let m = measured n in
     let a = start m .pre .2 in

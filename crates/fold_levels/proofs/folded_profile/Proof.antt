@@ -24,6 +24,17 @@ Inv-loop nodes so-far₀ i₀ so-far i = (g : Bool) (f : Forest) → HoldsNodes 
 abbrev μ-loop : tie.MeasureT-loop
 μ-loop nodes so-far₀ i₀ so-far i = length nodes - i
 
+-- ---- The places that others look back to
+
+abbrev start : tie.In-loop Inv-loop μ-loop → tie.Start Inv-loop μ-loop
+start c = c .before .before .before .before
+
+abbrev in-loop : tie.After-nodes-in Inv-loop μ-loop → tie.In-loop Inv-loop μ-loop
+in-loop c = c .before .before .before .before .before .before
+
+abbrev after-profile-at : tie.After-so-far Inv-loop μ-loop → tie.After-profile-at Inv-loop μ-loop
+after-profile-at c = c .before .before .before .before
+
 abbrev Nodes : tie.At-loop Inv-loop μ-loop → List ℕ
 Nodes c = now (c .before .before .before .args .nodes)
 
@@ -32,8 +43,8 @@ ahead : (c : tie.In-loop Inv-loop μ-loop) (g : Bool) (f : Forest) → HoldsNode
 ahead c g f h = next (c .before .loop .inv g f h) (c .loop-test .taken)
 
 -- that of the batch that is known to be held
-abbrev known : (c : tie.In-loop Inv-loop μ-loop) → Next false (Nodes (c .before)) (c .before .before .before .before .pre .f) (c .before .loop .so-far) (c .before .loop .i)
-known c = ahead c false (c .before .before .before .before .pre .f) (c .before .before .before .before .pre .holds)
+abbrev known : (c : tie.In-loop Inv-loop μ-loop) → Next false (Nodes (c .before)) (start c .pre .f) (c .before .loop .so-far) (c .before .loop .i)
+known c = ahead c false (start c .pre .f) (start c .pre .holds)
 
 -- its profile
 profiled : (c : tie.After-profile-at Inv-loop μ-loop) → Profiled (c .profile-at .result)
@@ -63,23 +74,23 @@ returns c = λ g f h.
     (c .before .before .before .joined-profile .ensures g _ (n .E) (n .stepped .profile) (c .before .before .before .before .profile-at .ensures (n .E) (n .stands)) .too-large (not-true _ (c .before .if1 .taken)))
 
 nodes-in-requires : tie.Need-nodes-in-requires Inv-loop μ-loop
-nodes-in-requires c κs = profiled (c .before .before .before .before)
+nodes-in-requires c κs = profiled (after-profile-at c)
 
 -- the nodes of the encoding that was joined
 counted : (c : tie.After-nodes-in Inv-loop μ-loop) (g : Bool) (f : Forest) →
-    let l = c .before .before .before .before .before .before in
+    let l = in-loop c in
     (h : HoldsNodes (Nodes (l .before)) f) → c .nodes-in .result ≡ nodesIn (forest (ahead l g f h .E ∷ []))
 counted c g f h =
-    let n = ahead (c .before .before .before .before .before .before) g f h in
-    c .nodes-in .ensures (n .E) (c .before .before .before .before .before .profile-at .ensures (n .E) (n .stands))
+    let n = ahead (in-loop c) g f h in
+    c .nodes-in .ensures (n .E) (after-profile-at (c .before) .profile-at .ensures (n .E) (n .stands))
 
 -- which are there
 there : (c : tie.After-nodes-in Inv-loop μ-loop) →
     let l = c .before .before .before .before .before .before .before in
     (0 < c .nodes-in .result) × (l .loop .i + c .nodes-in .result * nodeWidth ≤ length (Nodes l))
 there c =
-    let l = c .before .before .before .before .before .before in
-    let e = counted c false (l .before .before .before .before .pre .f) (l .before .before .before .before .pre .holds) in
+    let l = in-loop c in
+    let e = counted c false (start l .pre .f) (start l .pre .holds) in
     (rw e (next-some (known l)), rw e (next-room (known l)))
 
 mul-i : tie.Need-mul-i Inv-loop μ-loop
@@ -93,9 +104,9 @@ loop-less c = omega (arith, there c .0, there c .1)
 
 loop-again : tie.Need-loop-again Inv-loop μ-loop
 loop-again c = λ g f h.
-    let n = ahead (c .before .before .before .before .before .before) g f h in
+    let n = ahead (in-loop c) g f h in
     stepped-more n (c .nodes-in .result) (counted c g f h)
-    (c .before .before .before .before .joined-profile .ensures g _ (n .E) (n .stepped .profile) (c .before .before .before .before .before .profile-at .ensures (n .E) (n .stands)) .fitting (not-false _ (c .before .before .if1 .left)))
+    (c .before .before .before .before .joined-profile .ensures g _ (n .E) (n .stepped .profile) (after-profile-at (c .before) .profile-at .ensures (n .E) (n .stands)) .fitting (not-false _ (c .before .before .if1 .left)))
 
 returns-2 : tie.Need-returns-2 Inv-loop μ-loop
 returns-2 c = λ g f h. stepped-end (c .before .loop .inv g f h) (c .loop-test .left)

@@ -13,6 +13,9 @@ use Rattle.fold_next.proofs.fold_next.Tie as tie
 
 -- ---- The places: back to the start, or to the call before
 
+abbrev after-run-from : tie.After-struct-known3 → tie.After-run-from
+after-run-from c = c .before .before .before .before
+
 abbrev start : tie.After-slice-known5 → tie.Start
 start c = c .before .before .before .before .before .before .before
 
@@ -52,14 +55,14 @@ add-node : tie.Need-add-node
 add-node c = let f = c .before .before .before in let s = start (f .before .before) in omega (arith, run-far (s .pre .2) (found f (s .pre .2)) .0, s .good .0 .0)
 
 mul-row : tie.Need-mul-row
-mul-row c = let f = c .before .before .before .before in let s = start (f .before .before) in omega (arith, run-far (s .pre .2) (found f (s .pre .2)) .1, s .good .1 .0 .0)
+mul-row c = let f = after-run-from c in let s = start (f .before .before) in omega (arith, run-far (s .pre .2) (found f (s .pre .2)) .1, s .good .1 .0 .0)
 
 add-row : tie.Need-add-row
-add-row c = let f = c .before .before .before .before in let s = start (f .before .before) in omega (arith, run-far (s .pre .2) (found f (s .pre .2)) .1, s .good .1 .0 .0)
+add-row c = let f = after-run-from c in let s = start (f .before .before) in omega (arith, run-far (s .pre .2) (found f (s .pre .2)) .1, s .good .1 .0 .0)
 
 join-run-requires : tie.Need-join-run-requires
 join-run-requires c κs =
-    let f = c .before .before .before .before .before .before .before .before in
+    let f = after-run-from (c .before .before .before .before) in
     let p = start (f .before .before) .pre in
     let b = found f (p .2) in
     (p .0, b .run, asks-run (p .2) b)

@@ -21,31 +21,45 @@ Inv-loop nodes rows growing out-nodes₀ out-rows₀ working-nodes₀ working-ro
 abbrev μ-loop : tie.MeasureT-loop
 μ-loop nodes rows growing out-nodes₀ out-rows₀ working-nodes₀ working-rows₀ at₀ out-nodes out-rows working-nodes working-rows at = length nodes - at .node
 
+-- ---- The places that others look back to
+
+abbrev the-start : tie.After-start-arg Inv-loop μ-loop → tie.Start Inv-loop μ-loop
+the-start c = c .before .before .before .before .before .before .before
+
+abbrev at-loop : tie.After-fold-next Inv-loop μ-loop → tie.At-loop Inv-loop μ-loop
+at-loop c = c .before .before .before .before .before .before .before
+
+abbrev then1 : tie.After-fold-next-arg4 Inv-loop μ-loop → tie.Then1 Inv-loop μ-loop
+then1 c = c .before .before .before .before
+
+abbrev after-fold-next : tie.After-slice-known9 Inv-loop μ-loop → tie.After-fold-next Inv-loop μ-loop
+after-fold-next c = c .before .before .before .before .before .before .before .before
+
 -- where the loop begins, the empty encoding is written
-begun : (c : tie.After-slice-known5 Inv-loop μ-loop) → let v = c .before .before .before .before .before .before .before .before .before .before .args in Put (empty ∷ []) (now (v .out-nodes)) 0 (now (v .out-rows)) 0 (c .before .before .start .last .0) (now (v .out-rows))
+begun : (c : tie.After-slice-known5 Inv-loop μ-loop) → let v = the-start (c .before .before .before) .args in Put (empty ∷ []) (now (v .out-nodes)) 0 (now (v .out-rows)) 0 (c .before .before .start .last .0) (now (v .out-rows))
 begun c = empty-put (c .before .before .start .ensures)
 
 -- what was folded in a turn
 turned : (c : tie.After-fold-next Inv-loop μ-loop) →
-    let l = c .before .before .before .before .before .before .before in
-    let v = l .before .before .before .before .before .before .before .before .before .before .before .args in
+    let l = at-loop c in
+    let v = the-start (l .before .before .before .before) .args in
     Folded (so-far (l .loop .inv)) (l .loop .inv .left) (now (v .nodes)) (now (v .rows)) (l .loop .at) (c .fold-next .result) (v .growing) (l .loop .out-nodes) (l .loop .out-rows) (c .fold-next .last .1 .1 .1 .1 .0) (c .fold-next .last .1 .1 .1 .1 .1 .0)
-turned c = let t = c .before .before .before .before .before in let s = t .before .before .loop .inv in c .fold-next .ensures (so-far s) (s .left) (asks-next s (t .if1 .taken))
+turned c = let t = then1 (c .before) in let s = t .before .before .loop .inv in c .fold-next .ensures (so-far s) (s .left) (asks-next s (t .if1 .taken))
 
 start-requires : tie.Need-start-requires Inv-loop μ-loop
-start-requires c κs = let a = c .before .before .before .before .before .before .before .pre in start-asks _ (listed (a .f)) (a .room)
+start-requires c κs = let a = the-start c .pre in start-asks _ (listed (a .f)) (a .room)
 
 loop-holds : tie.Need-loop-holds Inv-loop μ-loop
-loop-holds c = going-start (c .before .before .before .before .before .before .before .before .before .before .pre) (begun c)
+loop-holds c = going-start (the-start (c .before .before .before) .pre) (begun c)
 
 fold-next-requires : tie.Need-fold-next-requires Inv-loop μ-loop
-fold-next-requires c κs = let t = c .before .before .before .before in let s = t .before .before .loop .inv in (so-far s, s .left, asks-next s (t .if1 .taken))
+fold-next-requires c κs = let t = then1 c in let s = t .before .before .loop .inv in (so-far s, s .left, asks-next s (t .if1 .taken))
 
 loop-less : tie.Need-loop-less Inv-loop μ-loop
-loop-less c = let n = c .before .before .before .before .before .before .before .before in let t = turned n in omega (arith, t .on, t .ends, n .before .before .before .before .before .if1 .taken)
+loop-less c = let n = after-fold-next c in let t = turned n in omega (arith, t .on, t .ends, then1 (n .before) .if1 .taken)
 
 loop-again : tie.Need-loop-again Inv-loop μ-loop
-loop-again c = let n = c .before .before .before .before .before .before .before .before in going-on (n .before .before .before .before .before .before .before .loop .inv) (turned n) (n .fold-next .kept .1 .1 .1 .1 .1 .1 .0) (n .fold-next .kept .1 .1 .1 .1 .1 .1 .1 .0)
+loop-again c = let n = after-fold-next c in going-on (at-loop n .loop .inv) (turned n) (n .fold-next .kept .1 .1 .1 .1 .1 .1 .0) (n .fold-next .kept .1 .1 .1 .1 .1 .1 .1 .0)
 
 same-length : tie.Need-same-length Inv-loop μ-loop
 same-length c = folding-lengths (c .before .before .loop .inv .folding) .0 ∙ c .before .before .before .before .before .start .kept .0

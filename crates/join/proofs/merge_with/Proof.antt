@@ -20,11 +20,22 @@ use Rattle.join.proofs.Deciding.{one-here, outcome-no-room, outcome-too
 use Rattle.join.proofs.merge_with.Statement.{statement}
 use Rattle.join.proofs.merge_with.Tie as tie
 
+-- ---- The places that others look back to
+
+abbrev start : tie.Else1 → tie.Start
+start c = c .before .before .before .before .before .before .before .before
+
+abbrev after-zero-both : tie.After-slice-known4 → tie.After-zero-both
+after-zero-both c = c .before .before .before .before
+
+abbrev after-join-nodes : tie.After-slice-known6 → tie.After-join-nodes
+after-join-nodes c = c .before .before .before .before
+
 -- past the first two tests there is one encoding in each
-the-first : (c : tie.Else1) → let v = c .before .before .before .before .before .before .before .before .args in (E : Encoding) × One (now (v .first-nodes)) (now (v .first-rows)) E
+the-first : (c : tie.Else1) → let v = start c .args in (E : Encoding) × One (now (v .first-nodes)) (now (v .first-rows)) E
 the-first c = one-there _ _ (sym (c .before .is-one .ensures) ∙ not-false _ (c .if1 .left))
 
-the-second : (c : tie.Else2) → let v = c .before .before .before .before .before .before .before .before .before .before .args in (E : Encoding) × One (now (v .second-nodes)) (now (v .second-rows)) E
+the-second : (c : tie.Else2) → let v = start (c .before .before) .args in (E : Encoding) × One (now (v .second-nodes)) (now (v .second-rows)) E
 the-second c = one-there _ _ (sym (c .before .is-one2 .ensures) ∙ not-false _ (c .if2 .left))
 
 is-one-requires : tie.Need-is-one-requires
@@ -46,7 +57,7 @@ join-size-requires c κs =
     record { S = s .0; P = p .0; first-stands = one-stands (s .1); second-stands = one-stands (p .1) }
 
 -- the size of the join
-sized : (c : tie.After-join-size) → Sizes (join (c .before .before .before .before .before .before .before .before .before .before .before .args .growing) (the-first (c .before .before .before) .0) (the-second (c .before) .0)) (c .join-size .result)
+sized : (c : tie.After-join-size) → Sizes (join (start (c .before .before .before) .args .growing) (the-first (c .before .before .before) .0) (the-second (c .before) .0)) (c .join-size .result)
 sized c = c .join-size .ensures _ _ _ (one-stands (the-first (c .before .before .before) .1)) (one-stands (the-second (c .before) .1))
 
 has-room-requires : tie.Need-has-room-requires
@@ -68,24 +79,24 @@ zero-both-requires : tie.Need-zero-both-requires
 zero-both-requires c κs = tt
 
 same-length : tie.Need-same-length
-same-length c = c .before .before .before .before .zero-both .kept .0
+same-length c = after-zero-both c .zero-both .kept .0
 
 same-length-2 : tie.Need-same-length-2
-same-length-2 c = c .before .before .before .before .zero-both .kept .1 .0
+same-length-2 c = after-zero-both c .zero-both .kept .1 .0
 
 -- past the third there is room for it
-roomed : (c : tie.Else3) → let v = c .before .before .before .before .before .before .before .before .before .before .before .before .before .args in hasRoom (c .before .before .join-size .result) (length (now (v .out-nodes))) (length (now (v .out-rows))) ≡ true
+roomed : (c : tie.Else3) → let v = start (c .before .before .before .before .before) .args in hasRoom (c .before .before .join-size .result) (length (now (v .out-nodes))) (length (now (v .out-rows))) ≡ true
 roomed c = sym (c .before .has-room .ensures) ∙ not-false _ (c .if3 .left)
 
 -- whether its offsets fit
-fits : (c : tie.After-join-fits) → let e = c .before .before .before in c .join-fits .result ≡ joinFits (e .before .before .before .before .before .before .before .before .before .before .before .args .growing) (the-first (e .before .before .before) .0) (the-second (e .before) .0)
+fits : (c : tie.After-join-fits) → let e = c .before .before .before in c .join-fits .result ≡ joinFits (start (e .before .before .before) .args .growing) (the-first (e .before .before .before) .0) (the-second (e .before) .0)
 fits c = let e = c .before .before .before in c .join-fits .ensures _ _ (the-first (e .before .before .before) .1) (the-second (e .before) .1)
 
 returns-4 : tie.Need-returns-4
 returns-4 c =
     let f = c .before .before .before .before .before .before .before .before in
     let e = f .before .before .before in
-    let z = c .before .before .before .before .zero-both .ensures in
+    let z = after-zero-both c .zero-both .ensures in
     record {
       promised = writes-zeros
           (outcome-too-large (the-first (e .before .before .before) .1) (the-second (e .before) .1) _ _ _ (sized e) (roomed (f .before)) (sym (fits f) ∙ not-true _ (c .before .before .before .before .before .before .before .if4 .taken)))
@@ -99,10 +110,10 @@ join-nodes-requires c κs =
     join-asks (the-first (e .before .before .before) .1) (the-second (e .before) .1) _ _ _ (sized e) (roomed (f .before)) (sym (fits f) ∙ not-false _ (c .before .before .if4 .left))
 
 same-length-3 : tie.Need-same-length-3
-same-length-3 c = c .before .before .before .before .join-nodes .kept .1 .1 .1 .1 .1 .1 .1 .1 .0
+same-length-3 c = after-join-nodes c .join-nodes .kept .1 .1 .1 .1 .1 .1 .1 .1 .0
 
 same-length-4 : tie.Need-same-length-4
-same-length-4 c = c .before .before .before .before .join-nodes .kept .1 .1 .1 .1 .1 .1 .1 .1 .1 .0
+same-length-4 c = after-join-nodes c .join-nodes .kept .1 .1 .1 .1 .1 .1 .1 .1 .1 .0
 
 returns-5 : tie.Need-returns-5
 returns-5 c =
@@ -113,7 +124,7 @@ returns-5 c =
     let p = the-second (e .before) in
     record {
       promised = join-writes (s .1) (p .1) _ _ _ (sized e) (roomed (f .before)) (sym (fits f) ∙ not-false _ (t .if4 .left))
-          (c .before .before .before .before .join-nodes .ensures (s .0) (p .0) (one-here (s .1)) (one-here (p .1)) .put);
+          (after-join-nodes c .join-nodes .ensures (s .0) (p .0) (one-here (s .1)) (one-here (p .1)) .put);
     }
 
 pub merge-with-spec : {M : Type 1} → statement M

@@ -10,6 +10,11 @@ use Rattle.join_add.proofs.Added.{length-added, part-at}
 use Rattle.join_add.proofs.add_at.Statement.{statement}
 use Rattle.join_add.proofs.add_at.Tie as tie
 
+-- ---- The places that others look back to
+
+abbrev start : tie.After-add-whole-arg2 → tie.Start
+start c = c .before .before .before .before .before
+
 add-add-whole : tie.Need-add-add-whole
 add-add-whole c = search needs
 
@@ -42,7 +47,7 @@ part-add-whole-end-2 c = search needs
 
 add-whole-requires : tie.Need-add-whole-requires
 add-whole-requires c κs =
-    let b = c .before .before .before .before .before in
+    let b = start c in
     let v = b .args in
     let size = v .from + v .m - v .from in
     record {
@@ -58,7 +63,7 @@ same-length c = search needs
 
 returns : tie.Need-returns
 returns c =
-    let b = c .before .before .before .before .before .before .before .before in
+    let b = start (c .before .before .before) in
     let v = b .args in
     let e = c .before .before .add-whole .ensures in
     let k : v .from + v .m - v .from ≡ v .m = omega arith in

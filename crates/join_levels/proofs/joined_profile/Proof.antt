@@ -6,6 +6,17 @@ use Rattle.join_levels.proofs.Limits.{few-levels-of, small-nodes, small
 use Rattle.join_levels.proofs.joined_profile.Statement.{statement}
 use Rattle.join_levels.proofs.joined_profile.Tie as tie
 
+-- ---- The places that others look back to
+
+abbrev start : tie.After-e → tie.Start
+start c = c .before .before .before .before .before .before .before
+
+abbrev else1 : tie.After-e → tie.Else1
+else1 c = c .before .before .before .before
+
+abbrev after-levels-of : tie.After-within2 → tie.After-levels-of
+after-levels-of c = c .before .before .before .before
+
 add-m : tie.Need-add-m
 add-m c = omega (arith, few-levels-of (c .before .before .pre .0), few-levels-of (c .before .before .pre .1))
 
@@ -16,10 +27,10 @@ returns : tie.Need-returns
 returns c = λ g S P os op. too-deep g S P _ _ os op (c .before .if1 .taken) (c .too-large .ensures)
 
 levels-of-requires : tie.Need-levels-of-requires
-levels-of-requires c κs = (c .before .before .before .before .if1 .left, small-nodes (c .before .before .before .before .before .before .before .pre .0) (c .before .before .before .before .before .before .before .pre .1))
+levels-of-requires c κs = (else1 c .if1 .left, small-nodes (start c .pre .0) (start c .pre .1))
 
 levels-of-requires-2 : tie.Need-levels-of-requires-2
-levels-of-requires-2 c κs = (c .before .before .before .before .before .if1 .left, small-rows (c .before .before .before .before .before .before .before .before .pre .0) (c .before .before .before .before .before .before .before .before .pre .1))
+levels-of-requires-2 c κs = (else1 (c .before) .if1 .left, small-rows (start (c .before) .pre .0) (start (c .before) .pre .1))
 
 add-within : tie.Need-add-within
 add-within c = search needs
@@ -45,11 +56,11 @@ too-large-requires-3 c κs = search needs
 
 returns-3 : tie.Need-returns-3
 returns-3 c = λ g S P os op.
-    many-rows g S P _ _ os op (c .before .before .before .before .before .before .levels-of .ensures) (c .before .before .before .before .before .levels-of2 .ensures) (c .before .before .before .before .within .ensures) (c .before .before .within2 .ensures) (not-true _ (c .before .if3 .taken)) (c .too-large3 .ensures)
+    many-rows g S P _ _ os op (after-levels-of (c .before .before) .levels-of .ensures) (c .before .before .before .before .before .levels-of2 .ensures) (c .before .before .before .before .within .ensures) (c .before .before .within2 .ensures) (not-true _ (c .before .if3 .taken)) (c .too-large3 .ensures)
 
 returns-4 : tie.Need-returns-4
 returns-4 c = λ g S P os op.
-    fitting g S P _ _ os op (c .before .before .before .before .before .levels-of .ensures) (c .before .before .before .before .levels-of2 .ensures) (c .before .before .before .within .ensures) (c .before .within2 .ensures) (not-false _ (c .before .before .if2 .left)) (not-false _ (c .if3 .left)) (c .before .before .before .before .before .before .before .before .before .before .if1 .left)
+    fitting g S P _ _ os op (after-levels-of (c .before) .levels-of .ensures) (c .before .before .before .before .levels-of2 .ensures) (c .before .before .before .within .ensures) (c .before .within2 .ensures) (not-false _ (c .before .before .if2 .left)) (not-false _ (c .if3 .left)) (else1 (c .before .before .before .before .before .before) .if1 .left)
 
 pub joined-profile-spec : {M : Type 1} → statement M
 joined-profile-spec =

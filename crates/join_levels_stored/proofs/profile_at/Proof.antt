@@ -21,6 +21,17 @@ Inv-loop nodes start pending₀ counted₀ rows₀ levels₀ depth₀ i₀ pendi
 abbrev μ-loop : tie.MeasureT-loop
 μ-loop nodes start pending₀ counted₀ rows₀ levels₀ depth₀ i₀ pending counted rows levels depth i = length nodes - i + depth
 
+-- ---- The places that others look back to
+
+abbrev the-start : tie.Else1 Inv-loop μ-loop → tie.Start Inv-loop μ-loop
+the-start c = c .before .before .before .before
+
+abbrev at-loop : tie.After-wide Inv-loop μ-loop → tie.At-loop Inv-loop μ-loop
+at-loop c = c .before .before .before .before .before
+
+abbrev else1 : tie.After-larger Inv-loop μ-loop → tie.Else1 Inv-loop μ-loop
+else1 c = c .before .before .before .before
+
 abbrev Nodes : tie.At-loop Inv-loop μ-loop → List ℕ
 Nodes c = now (c .before .before .args .nodes)
 
@@ -40,18 +51,18 @@ node c E s =
 abbrev known : (c : tie.Else1 Inv-loop μ-loop) →
     let l = c .before .before in
     Due (Nodes l) (l .before .before .pre .E) (l .loop .pending) (l .loop .counted) (l .loop .rows) (l .loop .levels) (l .loop .i) (l .loop .depth - 1)
-known c = node c (c .before .before .before .before .pre .E) (c .before .before .before .before .pre .stands)
+known c = node c (the-start c .pre .E) (the-start c .pre .stands)
 
 -- what was counted so far is within the limits
 few-nodes : (c : tie.Else1 Inv-loop μ-loop) →
     let l = c .before .before in
     at (l .loop .counted) (l .loop .depth - 1) ≤ mostNodes
-few-nodes c = due-few-nodes (c .before .before .before .before .pre .stands) (known c) (c .before .before .loop .depth - 1)
+few-nodes c = due-few-nodes (the-start c .pre .stands) (known c) (c .before .before .loop .depth - 1)
 
 few-rows : (c : tie.Else1 Inv-loop μ-loop) →
     let l = c .before .before in
     at (l .loop .rows) (l .loop .depth - 1) ≤ mostRows
-few-rows c = due-few-rows (c .before .before .before .before .pre .stands) (known c) (c .before .before .loop .depth - 1)
+few-rows c = due-few-rows (the-start c .pre .stands) (known c) (c .before .before .loop .depth - 1)
 
 array-write-pending : tie.Need-array-write-pending Inv-loop μ-loop
 array-write-pending c = search needs
@@ -126,7 +137,7 @@ array-read-rows : tie.Need-array-read-rows Inv-loop μ-loop
 array-read-rows c = omega (arith, known (c .before .before .before) .level-low)
 
 add-rows : tie.Need-add-rows Inv-loop μ-loop
-add-rows c = omega (arith, few-rows (c .before .before .before), c .wide .ensures, c .before .shared-slice-known3 .given (c .before .before .before .before .before .loop .i))
+add-rows c = omega (arith, few-rows (c .before .before .before), c .wide .ensures, c .before .shared-slice-known3 .given (at-loop c .loop .i))
 
 array-write-rows : tie.Need-array-write-rows Inv-loop μ-loop
 array-write-rows c = omega (arith, known (c .before .before .before) .level-low)
@@ -135,18 +146,18 @@ larger-requires : tie.Need-larger-requires Inv-loop μ-loop
 larger-requires c κs = search needs
 
 add-depth : tie.Need-add-depth Inv-loop μ-loop
-add-depth c = omega (arith, known (c .before .before .before .before) .level-low)
+add-depth c = omega (arith, known (else1 c) .level-low)
 
 add-i : tie.Need-add-i Inv-loop μ-loop
-add-i c = omega (arith, known (c .before .before .before .before) .room)
+add-i c = omega (arith, known (else1 c) .room)
 
 loop-less-2 : tie.Need-loop-less-2 Inv-loop μ-loop
-loop-less-2 c = omega (arith, known (c .before .before .before .before) .room)
+loop-less-2 c = omega (arith, known (else1 c) .room)
 
 loop-again-2 : tie.Need-loop-again-2 Inv-loop μ-loop
 loop-again-2 c = λ E s.
-    let l = c .before .before .before .before .before .before in
-    rw (c .larger .ensures) (due-next (l .loop .depth) (getD (l .loop .pending) (l .loop .depth - 1) 0 - 1) (getD (Nodes l) (l .loop .i + 1) 0) (c .before .wide .result) (node (c .before .before .before .before) E s) (omega arith) refl refl (c .before .wide .ensures))
+    let l = at-loop (c .before) in
+    rw (c .larger .ensures) (due-next (l .loop .depth) (getD (l .loop .pending) (l .loop .depth - 1) 0 - 1) (getD (Nodes l) (l .loop .i + 1) 0) (c .before .wide .result) (node (else1 c) E s) (omega arith) refl refl (c .before .wide .ensures))
 
 sub-t34 : tie.Need-sub-t34 Inv-loop μ-loop
 sub-t34 c = omega (arith, left-end (c .before .loop .inv (c .before .before .before .pre .E) (c .before .before .before .pre .stands)) (omega arith) .0)

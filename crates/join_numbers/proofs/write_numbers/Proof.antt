@@ -9,6 +9,14 @@ use borrow.Author.Needs.{needs}
 use Rattle.join_numbers.proofs.write_numbers.Statement.{statement}
 use Rattle.join_numbers.proofs.write_numbers.Tie as tie
 
+-- ---- The places that others look back to
+
+abbrev the-start : tie.After-wide2 → tie.Start
+the-start c = c .before .before .before .before .before .before .before .before
+
+abbrev after-copy : tie.After-lay-ranges → tie.After-copy
+after-copy c = c .before .before .before .before
+
 mul-count : tie.Need-mul-count
 mul-count c = search needs
 
@@ -41,7 +49,7 @@ wide-requires-2 c κs = search needs
 
 window-count-requires : tie.Need-window-count-requires
 window-count-requires c κs =
-    let ask = c .before .before .before .before .before .before .before .before .pre in
+    let ask = the-start c .pre in
     let s = ask .there-s in
     let p = ask .there-p in
     (omega (arith, c .before .before .wide .ensures, node-windows s, s .few-windows), omega (arith, c .wide2 .ensures, node-windows p, p .few-windows))
@@ -54,7 +62,7 @@ shared-slice-read-out-nodes c = search needs
 
 add-out-nodes : tie.Need-add-out-nodes
 add-out-nodes c =
-    let ask = c .before .before .before .before .before .before .before .before .before .before .pre in
+    let ask = the-start (c .before .before) .pre in
     omega (arith, ask .few-rows, node-count (ask .there-s), node-count (ask .there-p))
 
 mul-out-nodes-2 : tie.Need-mul-out-nodes-2
@@ -66,7 +74,7 @@ slice-write-out-nodes c = search needs
 cast-out-nodes : tie.Need-cast-out-nodes
 cast-out-nodes c =
     let counted = c .before in
-    let ask = counted .before .before .before .before .before .before .before .before .before .pre in
+    let ask = the-start (counted .before) .pre in
     let e = counted .window-count .ensures ∙ ap₂ windowCount (counted .before .before .before .wide .ensures ∙ node-windows (ask .there-s)) (counted .before .wide2 .ensures ∙ node-windows (ask .there-p)) in
     omega (arith, e, ask .few-windows)
 
@@ -87,26 +95,26 @@ add-copy-2 c = search needs
 
 copy-requires : tie.Need-copy-requires
 copy-requires c κs =
-    let ask = c .before .before .before .before .before .before .before .before .before .before .before .pre in
+    let ask = the-start (c .before .before .before) .pre in
     (omega (arith, ask .there-s .inside), simp length-set (omega (arith, ask .fits)))
 
 lay-ranges-requires : tie.Need-lay-ranges-requires
 lay-ranges-requires c κs =
     let copied = c .before .before .before in
-    let ask = copied .before .before .before .before .before .before .before .before .before .before .before .before .pre in
+    let ask = the-start (copied .before .before .before .before) .pre in
     numbers-asks _ _ ask (copied .copy .ensures)
 
 same-length : tie.Need-same-length
 same-length c =
     let laid = c .before .before in
-    laid .lay-ranges .kept .0 ∙ laid .before .before .before .before .copy .kept .1 .1 .1 .0 ∙ simp length-set
+    laid .lay-ranges .kept .0 ∙ after-copy laid .copy .kept .1 .1 .1 .0 ∙ simp length-set
 
 returns : tie.Need-returns
 returns c =
     let laid = c .before .before in
-    let copied = laid .before .before .before .before in
+    let copied = after-copy laid in
     let counted = copied .before .before .before in
-    let start = counted .before .before .before .before .before .before .before .before .before in
+    let start = the-start (counted .before) in
     let windows = counted .window-count .ensures ∙ ap₂ windowCount (counted .before .before .before .wide .ensures) (counted .before .wide2 .ensures) in
     record { numbers = λ S P s p. numbers-written (start .args .out-nodes .now) S P s p (start .pre .fits) (counted .window-count .result) windows (copied .copy .ensures) (laid .lay-ranges .ensures) }
 

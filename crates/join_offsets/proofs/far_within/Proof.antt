@@ -17,6 +17,11 @@ use Rattle.join_offsets.proofs.Given.{offset-all, stores-here, nodes-fr
 use Rattle.join_offsets.proofs.far_within.Statement.{statement}
 use Rattle.join_offsets.proofs.far_within.Tie as tie
 
+-- ---- The places that others look back to
+
+abbrev start : tie.After-offset-bound → tie.Start
+start c = c .before .before .before .before
+
 largest-base-requires : tie.Need-largest-base-requires
 largest-base-requires c κs =
     let a = c .before .before .pre in
@@ -31,10 +36,10 @@ wide-requires : tie.Need-wide-requires
 wide-requires c κs = search needs
 
 -- few nodes, and each base a number of 32 bits
-product : (c : tie.After-wide) → let n = length (now (c .before .before .before .before .before .args .nodes)) / nodeWidth in n * c .wide .result ≤ mostNodes * mostOffset
+product : (c : tie.After-wide) → let n = length (now (start (c .before) .args .nodes)) / nodeWidth in n * c .wide .result ≤ mostNodes * mostOffset
 product c =
-    let a = c .before .before .before .before .before .pre in
-    let count = length (now (c .before .before .before .before .before .args .nodes)) / nodeWidth in
+    let a = start (c .before) .pre in
+    let count = length (now (start (c .before) .args .nodes)) / nodeWidth in
     let few : count ≤ mostNodes = omega (arith, nodes-counted (a .1), a .1 .well .fits .few-nodes) in
     let less : count * c .wide .result ≤ mostNodes * c .wide .result = mul-le-mul-right (c .wide .result) few in
     omega (arith, c .wide .ensures)
@@ -52,7 +57,7 @@ returns : tie.Need-returns
 returns c = λ f s t.
     let w = c .before in
     let o = w .before in
-    let count = length (now (o .before .before .before .before .args .nodes)) / nodeWidth in
+    let count = length (now (start o .args .nodes)) / nodeWidth in
     let base : w .wide .result ≡ largestBase f = w .wide .ensures ∙ o .before .largest-base .ensures f (nodes-from (stores-here s) (nodes-counted s)) in
     let bound : largest largestOffset f ≤ c .wide2 .result = omega (arith, c .wide2 .ensures, offset-all f, o .offset-bound .ensures (allRows f) (rows-from (stores-here s) (rows-counted s))) in
     let times : count * w .wide .result ≡ nodesIn f * w .wide .result = ap (_* w .wide .result) (nodes-counted s) in

@@ -21,6 +21,11 @@ use Rattle.join_offsets.proofs.Given.{offset-all, stores-here, nodes-fr
 use Rattle.join_offsets.proofs.join_fits.Statement.{statement}
 use Rattle.join_offsets.proofs.join_fits.Tie as tie
 
+-- ---- The places that others look back to
+
+abbrev the-start : tie.Else1 → tie.Start
+the-start c = c .before .before .before .before .before
+
 returns : tie.Need-returns
 returns c = λ S P s p.
     let e = not-true _ (c .if1 .taken) in
@@ -29,12 +34,12 @@ returns c = λ S P s p.
 
 largest-base-requires : tie.Need-largest-base-requires
 largest-base-requires c κs =
-    let o = c .before .before .before .before .before .pre in
+    let o = the-start c .pre in
     (forest (o .S ∷ []), nodes-from (stores-here (o .first .stores)) (nodes-counted (o .first .stores)))
 
 offset-bound-requires : tie.Need-offset-bound-requires
 offset-bound-requires c κs =
-    let o = c .before .before .before .before .before .before .pre in
+    let o = the-start (c .before) .pre in
     (allRows (forest (o .P ∷ [])), rows-from (stores-here (o .second .stores)) (rows-counted (o .second .stores)))
 
 wide-requires : tie.Need-wide-requires
@@ -71,7 +76,7 @@ returns-2 c = λ S P s p.
 
 largest-offset-requires : tie.Need-largest-offset-requires
 largest-offset-requires c κs =
-    let o = c .before .before .before .before .before .before .before .before .before .before .pre in
+    let o = the-start (c .before .before .before .before .before) .pre in
     (allRows (forest (o .P ∷ [])), rows-from (stores-here (o .second .stores)) (rows-counted (o .second .stores)))
 
 wide-requires-3 : tie.Need-wide-requires-3

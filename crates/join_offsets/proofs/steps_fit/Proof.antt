@@ -24,6 +24,14 @@ Inv-loop nodes rows base₀ i₀ j₀ base i j = (f : Forest) → Stores nodes r
 abbrev μ-loop : tie.MeasureT-loop
 μ-loop nodes rows base₀ i₀ j₀ base i j = length nodes - i
 
+-- ---- The places that others look back to
+
+abbrev start : tie.In-loop Inv-loop μ-loop → tie.Start Inv-loop μ-loop
+start c = c .before .before .before .before
+
+abbrev after-measure : tie.After-largest-base Inv-loop μ-loop → tie.After-measure Inv-loop μ-loop
+after-measure c = c .before .before .before .before
+
 abbrev Nodes : tie.At-loop Inv-loop μ-loop → List ℕ
 Nodes c = now (c .before .before .before .args .nodes)
 
@@ -38,8 +46,8 @@ ahead : (c : tie.In-loop Inv-loop μ-loop) (f : Forest) → Stores (Nodes (c .be
 ahead c f h = next (c .before .loop .inv f h) (c .loop-test .taken)
 
 -- that of the batch that is known to be stored
-abbrev known : (c : tie.In-loop Inv-loop μ-loop) → Ahead (c .before) (c .before .before .before .before .pre .0)
-known c = let a = c .before .before .before .before .pre in ahead c (a .0) (a .1)
+abbrev known : (c : tie.In-loop Inv-loop μ-loop) → Ahead (c .before) (start c .pre .0)
+known c = let a = start c .pre in ahead c (a .0) (a .1)
 
 -- its size, and its largest offset
 measured : (c : tie.After-measure Inv-loop μ-loop) {f : Forest} (n : Ahead (c .before .before) f) → c .measure .result ≡ sizeOf (forest (n .E ∷ []))
@@ -87,25 +95,25 @@ add-base : tie.Need-add-base Inv-loop μ-loop
 add-base c = search needs
 
 mul-i : tie.Need-mul-i Inv-loop μ-loop
-mul-i c = omega (arith, there (c .before .before .before .before .before .before) .1)
+mul-i c = omega (arith, there (after-measure (c .before .before)) .1)
 
 add-i : tie.Need-add-i Inv-loop μ-loop
-add-i c = omega (arith, there (c .before .before .before .before .before .before) .1)
+add-i c = omega (arith, there (after-measure (c .before .before)) .1)
 
 mul-j : tie.Need-mul-j Inv-loop μ-loop
-mul-j c = omega (arith, there (c .before .before .before .before .before .before .before) .2)
+mul-j c = omega (arith, there (after-measure (c .before .before .before)) .2)
 
 add-j : tie.Need-add-j Inv-loop μ-loop
-add-j c = omega (arith, there (c .before .before .before .before .before .before .before) .2)
+add-j c = omega (arith, there (after-measure (c .before .before .before)) .2)
 
 loop-less : tie.Need-loop-less Inv-loop μ-loop
-loop-less c = let t = there (c .before .before .before .before .before .before .before) in omega (arith, t .0, t .1)
+loop-less c = let t = there (after-measure (c .before .before .before)) in omega (arith, t .0, t .1)
 
 loop-again : tie.Need-loop-again Inv-loop μ-loop
 loop-again c = λ f h.
     let w = c .before .before in
     let b = w .before in
-    let m = b .before .before .before .before in
+    let m = after-measure b in
     let n = ahead (m .before) f h in
     let e = measured m n in
     folded-more n e (w .wide2 .ensures ∙ b .largest-base .ensures (forest (n .E ∷ [])) (next-nodes n e)) (omega (arith, b .before .if1 .left, offset (b .before .before) n))

@@ -6,6 +6,14 @@ use borrow.Author.Needs.{needs}
 use Rattle.join_ranges.proofs.lay_ranges.Statement.{statement}
 use Rattle.join_ranges.proofs.lay_ranges.Tie as tie
 
+-- ---- The places that others look back to
+
+abbrev start : tie.After-lay-present → tie.Start
+start c = c .before .before .before .before
+
+abbrev after-lay-present : tie.After-shared-slice-known2 → tie.After-lay-present
+after-lay-present c = c .before .before .before .before
+
 lay-present-requires : tie.Need-lay-present-requires
 lay-present-requires c κs = search needs
 
@@ -17,8 +25,8 @@ shared-slice-read-view-range c = search needs
 
 view-range-requires : tie.Need-view-range-requires
 view-range-requires c κs =
-    let laid = c .before .before .before .before in
-    let ask = laid .before .before .before .before .pre in
+    let laid = after-lay-present c in
+    let ask = start laid .pre in
     (ask .view-fine, omega (arith, ask .fits, laid .lay-present .kept .0), omega (arith, ask .few-rows, node-count (ask .there)))
 
 same-length : tie.Need-same-length
@@ -27,8 +35,8 @@ same-length c = search needs
 returns : tie.Need-returns
 returns c =
     let seen = c .before .before in
-    let laid = seen .before .before .before .before .before in
-    let v = laid .before .before .before .before in
+    let laid = after-lay-present (seen .before) in
+    let v = start laid in
     lays-seen (v .args .view) (v .pre .fits) (laid .lay-present .ensures) (seen .view-range .ensures)
 
 pub lay-ranges-spec : {M : Type 1} → statement M

@@ -5,6 +5,11 @@ use borrow.Author.Needs.{needs}
 use Rattle.join_rows.proofs.write_own_rows.Statement.{statement}
 use Rattle.join_rows.proofs.write_own_rows.Tie as tie
 
+-- ---- The places that others look back to
+
+abbrev start : tie.After-base-of → tie.Start
+start c = c .before .before .before .before
+
 mul-size : tie.Need-mul-size
 mul-size c = search needs
 
@@ -21,7 +26,7 @@ copy-moved-requires : tie.Need-copy-moved-requires
 copy-moved-requires c κs =
     let copied = c .before .before .before in
     let moves = copied .before .before in
-    let ask = moves .before .before .before .before .pre in
+    let ask = start moves .pre in
     (own-asks (moves .base-of .ensures) ask, omega (arith, ask .fits, copied .copy .kept .1 .1 .1 .0))
 
 same-length : tie.Need-same-length
@@ -32,7 +37,7 @@ returns c =
     let moved = c .before .before in
     let copied = moved .before .before .before .before in
     let moves = copied .before .before in
-    own-written (moves .base-of .ensures) (moves .before .before .before .before .args .view) (copied .copy .ensures) (moved .copy-moved .ensures)
+    own-written (moves .base-of .ensures) (start moves .args .view) (copied .copy .ensures) (moved .copy-moved .ensures)
 
 pub write-own-rows-spec : {M : Type 1} → statement M
 write-own-rows-spec =

@@ -15,6 +15,14 @@ Inv-loop t₀ n k₀ t k = (k ≤ n) × Passed (levelCount * levelCount) (λ k. 
 abbrev μ-loop : tie.MeasureT-loop
 μ-loop t₀ n k₀ t k = n - k
 
+-- ---- The places that others look back to
+
+abbrev start : tie.After-t2 Inv-loop μ-loop → tie.Start Inv-loop μ-loop
+start c = c .before .before .before .before
+
+abbrev at-loop : tie.After-t3 Inv-loop μ-loop → tie.At-loop Inv-loop μ-loop
+at-loop c = c .before .before .before .before
+
 loop-holds : tie.Need-loop-holds Inv-loop μ-loop
 loop-holds c = (search needs, passed-none _ _ (c .pre .1))
 
@@ -40,7 +48,7 @@ element-copy-out-t-2 : tie.Need-element-copy-out-t-2 Inv-loop μ-loop
 element-copy-out-t-2 c = search needs
 
 add-t-3 : tie.Need-add-t-3 Inv-loop μ-loop
-add-t-3 c = record { fits = fits-first _ _ (fits-three _ _ _ (c .before .before .before .loop .inv .1 .left (c .before .before .before .loop .k + 1) (omega arith)) (c .before .before .before .loop .inv .1 .left (c .before .before .before .loop .k + levelCount) (omega arith)) (c .before .before .before .loop .inv .1 .left (c .before .before .before .loop .k + suc levelCount) (omega arith)) (c .before .before .before .before .pre .2 (c .before .before .before .loop .k + 1) (omega arith)) (c .before .before .before .before .pre .2 (c .before .before .before .loop .k + levelCount) (omega arith)) (c .before .before .before .before .pre .2 (c .before .before .before .loop .k + suc levelCount) (omega arith))) }
+add-t-3 c = record { fits = fits-first _ _ (fits-three _ _ _ (c .before .before .before .loop .inv .1 .left (c .before .before .before .loop .k + 1) (omega arith)) (c .before .before .before .loop .inv .1 .left (c .before .before .before .loop .k + levelCount) (omega arith)) (c .before .before .before .loop .inv .1 .left (c .before .before .before .loop .k + suc levelCount) (omega arith)) (start c .pre .2 (c .before .before .before .loop .k + 1) (omega arith)) (start c .pre .2 (c .before .before .before .loop .k + levelCount) (omega arith)) (start c .pre .2 (c .before .before .before .loop .k + suc levelCount) (omega arith))) }
 
 add-t-4 : tie.Need-add-t-4 Inv-loop μ-loop
 add-t-4 c = search needs
@@ -52,7 +60,7 @@ element-copy-out-t-3 : tie.Need-element-copy-out-t-3 Inv-loop μ-loop
 element-copy-out-t-3 c = search needs
 
 add-t-5 : tie.Need-add-t-5 Inv-loop μ-loop
-add-t-5 c = record { fits = fits-three _ _ _ (c .before .before .before .before .loop .inv .1 .left (c .before .before .before .before .loop .k + 1) (omega arith)) (c .before .before .before .before .loop .inv .1 .left (c .before .before .before .before .loop .k + levelCount) (omega arith)) (c .before .before .before .before .loop .inv .1 .left (c .before .before .before .before .loop .k + suc levelCount) (omega arith)) (c .before .before .before .before .before .pre .2 (c .before .before .before .before .loop .k + 1) (omega arith)) (c .before .before .before .before .before .pre .2 (c .before .before .before .before .loop .k + levelCount) (omega arith)) (c .before .before .before .before .before .pre .2 (c .before .before .before .before .loop .k + suc levelCount) (omega arith)) }
+add-t-5 c = record { fits = fits-three _ _ _ (at-loop c .loop .inv .1 .left (at-loop c .loop .k + 1) (omega arith)) (at-loop c .loop .inv .1 .left (at-loop c .loop .k + levelCount) (omega arith)) (at-loop c .loop .inv .1 .left (at-loop c .loop .k + suc levelCount) (omega arith)) (start (c .before) .pre .2 (at-loop c .loop .k + 1) (omega arith)) (start (c .before) .pre .2 (at-loop c .loop .k + levelCount) (omega arith)) (start (c .before) .pre .2 (at-loop c .loop .k + suc levelCount) (omega arith)) }
 
 mul-t-4 : tie.Need-mul-t-4 Inv-loop μ-loop
 mul-t-4 c = search needs
@@ -67,7 +75,7 @@ loop-less : tie.Need-loop-less Inv-loop μ-loop
 loop-less c = search needs
 
 loop-again : tie.Need-loop-again Inv-loop μ-loop
-loop-again c = (search needs, passed-more _ (c .before .before .before .before .loop .inv .1) (omega arith) (ap₂ _+_ (ap₂ _+_ (c .before .before .before .before .loop .inv .1 .left (c .before .before .before .before .loop .k + 1) (omega arith)) (c .before .before .before .before .loop .inv .1 .left (c .before .before .before .before .loop .k + levelCount) (omega arith))) (c .before .before .before .before .loop .inv .1 .left (c .before .before .before .before .loop .k + suc levelCount) (omega arith))))
+loop-again c = (search needs, passed-more _ (at-loop c .loop .inv .1) (omega arith) (ap₂ _+_ (ap₂ _+_ (at-loop c .loop .inv .1 .left (at-loop c .loop .k + 1) (omega arith)) (at-loop c .loop .inv .1 .left (at-loop c .loop .k + levelCount) (omega arith))) (at-loop c .loop .inv .1 .left (at-loop c .loop .k + suc levelCount) (omega arith))))
 
 returns : tie.Need-returns Inv-loop μ-loop
 returns c = (c .before .loop .inv .1 .len, λ k l. c .before .loop .inv .1 .done k (omega arith))

@@ -17,13 +17,21 @@ use borrow.Author.Needs.{needs}
 use Rattle.lookup_chars.proofs.chars_of_token.Statement.{statement}
 use Rattle.lookup_chars.proofs.chars_of_token.Tie as tie
 
+-- ---- The places that others look back to
+
+abbrev start : tie.Else1 → tie.Start
+start c = c .before .before .before .before
+
+abbrev else1 : tie.After-shared-slice-known4 → tie.Else1
+else1 c = c .before .before .before .before .before
+
 -- the row is there
-inside : (c : tie.Else1) → let v = c .before .before .before .before .args in v .token .0 * rowWidth + rowWidth ≤ length (now (v .rows))
-inside c = row-inside _ _ _ (c .before .before .before .before .pre) (c .if1 .left)
+inside : (c : tie.Else1) → let v = start c .args in v .token .0 * rowWidth + rowWidth ≤ length (now (v .rows))
+inside c = row-inside _ _ _ (start c .pre) (c .if1 .left)
 
 -- its sequence, by the case of the answer
 placed : (c : tie.After-sequence-of) {a : Sequence} → c .sequence-of .result ≡ a →
-    let v = c .before .before .before .before .before .args in
+    let v = start (c .before) .args in
     OfOne (now (v .nodes)) (now (v .rows)) (λ E. tokenToSequence E (v .token .0) ≡ sequenceBack a)
 placed c e = λ E one. sequence-back _ _ (c .sequence-of .ensures _ E one) ∙ ap sequenceBack e
 
@@ -35,7 +43,7 @@ unfolding tokenToChars
 returns c = λ E one. ap tokenCharsAnswer (sym (of-past one _ _ (c .if1 .taken)))
 
 sequence-of-requires : tie.Need-sequence-of-requires
-sequence-of-requires c κs = top-there _ _ (c .before .before .before .before .pre)
+sequence-of-requires c κs = top-there _ _ (start c .pre)
 
 enum-known-found : tie.Need-enum-known-found
 enum-known-found c = search needs
@@ -61,7 +69,7 @@ mul-t12 : tie.Need-mul-t12
 mul-t12 c = search needs
 
 shared-slice-read-t9 : tie.Need-shared-slice-read-t9
-shared-slice-read-t9 c = omega (arith, inside (c .before .before .before .before .before))
+shared-slice-read-t9 c = omega (arith, inside (else1 c))
 
 add-t15 : tie.Need-add-t15
 add-t15 c = search needs
@@ -70,7 +78,7 @@ mul-t16 : tie.Need-mul-t16
 mul-t16 c = search needs
 
 shared-slice-read-t18 : tie.Need-shared-slice-read-t18
-shared-slice-read-t18 c = omega (arith, inside (c .before .before .before .before .before .before))
+shared-slice-read-t18 c = omega (arith, inside (else1 (c .before)))
 
 returns-3 : tie.Need-returns-3
 returns-3 c = λ E one.

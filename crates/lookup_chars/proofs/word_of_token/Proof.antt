@@ -17,13 +17,18 @@ use borrow.Author.Needs.{needs}
 use Rattle.lookup_chars.proofs.word_of_token.Statement.{statement}
 use Rattle.lookup_chars.proofs.word_of_token.Tie as tie
 
+-- ---- The places that others look back to
+
+abbrev start : tie.Else1 → tie.Start
+start c = c .before .before .before .before
+
 -- the row is there
-inside : (c : tie.Else1) → let v = c .before .before .before .before .args in v .token .0 * rowWidth + rowWidth ≤ length (now (v .rows))
-inside c = row-inside _ _ _ (c .before .before .before .before .pre) (c .if1 .left)
+inside : (c : tie.Else1) → let v = start c .args in v .token .0 * rowWidth + rowWidth ≤ length (now (v .rows))
+inside c = row-inside _ _ _ (start c .pre) (c .if1 .left)
 
 -- its sequence, by the case of the answer
 placed : (c : tie.After-sequence-of) {a : Sequence} → c .sequence-of .result ≡ a →
-    let v = c .before .before .before .before .before .before .before .args in
+    let v = start (c .before .before .before) .args in
     OfOne (now (v .nodes)) (now (v .rows)) (λ E. tokenToSequence E (v .token .0) ≡ sequenceBack a)
 placed c e = λ E one. sequence-back _ _ (c .sequence-of .ensures _ E one) ∙ ap sequenceBack e
 
@@ -53,7 +58,7 @@ returns-2 : tie.Need-returns-2
 returns-2 c = λ E one. ap tokenWordAnswer (sym (word-unmarked one _ (c .before .before .if1 .left) (c .if2 .taken)))
 
 sequence-of-requires : tie.Need-sequence-of-requires
-sequence-of-requires c κs = top-there _ _ (c .before .before .before .before .before .before .pre)
+sequence-of-requires c κs = top-there _ _ (start (c .before .before) .pre)
 
 enum-known-found : tie.Need-enum-known-found
 enum-known-found c = search needs

@@ -20,6 +20,11 @@ Inv-loop nodes out₀ n k₀ out k = (k ≤ n) × (length out ≡ length out₀)
 abbrev μ-loop : tie.MeasureT-loop
 μ-loop nodes out₀ n k₀ out k = n - k
 
+-- ---- The places that others look back to
+
+abbrev the-start : tie.At-loop Inv-loop μ-loop → tie.Start Inv-loop μ-loop
+the-start c = c .before .before .before .before
+
 count-of-requires : tie.Need-count-of-requires Inv-loop μ-loop
 count-of-requires c κs = one-nodes-long (c .before .before .pre .is)
 
@@ -27,12 +32,12 @@ loop-holds : tie.Need-loop-holds Inv-loop μ-loop
 loop-holds c = (search needs, refl, λ rows E h rest e. e ∙ ap (_++ rest) (sym (column-start E)))
 
 range-of-requires : tie.Need-range-of-requires Inv-loop μ-loop
-range-of-requires c κs = one-nodes-long (c .before .before .before .before .before .before .pre .is)
+range-of-requires c κs = one-nodes-long (the-start (c .before .before) .pre .is)
 
 mark-requires : tie.Need-mark-requires Inv-loop μ-loop
 mark-requires c κs =
     let at-loop = c .before .before .before in
-    let pre = at-loop .before .before .before .before .pre in
+    let pre = the-start at-loop .pre in
     let within = range-within (pre .is) (at-loop .loop .k) in
     subst (λ (b : Bounds). (b .start ≤ b .end) × (2 * b .end ≤ length (at-loop .loop .out))) (sym (c .range-of .ensures (pre .rows) (pre .tree) (pre .is)))
     (within .0, omega (arith, within .1, pre .fits, at-loop .loop .inv .1))

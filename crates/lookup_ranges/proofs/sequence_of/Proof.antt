@@ -8,6 +8,11 @@ use Rattle.lookup_ranges.proofs.Ranges.{token-above, token-alone, token
 use Rattle.lookup_ranges.proofs.sequence_of.Statement.{statement}
 use Rattle.lookup_ranges.proofs.sequence_of.Tie as tie
 
+-- ---- The places that others look back to
+
+abbrev start : tie.After-present-of → tie.Start
+start c = c .before .before .before .before
+
 shared-slice-read-if1 : tie.Need-shared-slice-read-if1
 shared-slice-read-if1 c = search needs
 
@@ -21,7 +26,7 @@ present-of-requires c κs = search needs
 
 returns-2 : tie.Need-returns-2
 returns-2 c = λ rows E h.
-    let row = c .before .before .before .before .before .args .row in
+    let row = start (c .before) .args .row in
     ap sequenceFound (sym (token-alone E row (omega (arith, c .before .before .if1 .left, one-size h)) (omega (arith, c .if2 .taken, c .before .present-of .ensures rows E h))))
 
 first-holding-requires : tie.Need-first-holding-requires
@@ -29,7 +34,7 @@ first-holding-requires c κs = search needs
 
 returns-3 : tie.Need-returns-3
 returns-3 c = λ rows E h.
-    let row = c .before .before .before .before .before .before .args .row in
+    let row = start (c .before .before) .args .row in
     c .first-holding .ensures rows E h
     ∙ ap sequenceFound (sym (token-first E row (omega (arith, c .before .before .before .if1 .left, one-size h)) (λ n. c .before .if2 .left (c .before .before .present-of .ensures rows E h ∙ n))))
 

@@ -13,6 +13,11 @@ use Rattle.lookup_texts.proofs.RowText.{row-whole, text-malformed, text
 use Rattle.lookup_texts.proofs.text.Statement.{statement}
 use Rattle.lookup_texts.proofs.text.Tie as tie
 
+-- ---- The places that others look back to
+
+abbrev else1 : tie.After-pool-length → tie.Else1
+else1 c = c .before .before .before .before .before .before
+
 abbrev At : tie.After-enum-told → tie.Start
 At c = c .before .before .before .before .before .before .before
 
@@ -88,12 +93,12 @@ pool-length-requires c κs = search needs
 
 returns-3 : tie.Need-returns-3
 returns-3 c =
-    let e = c .before .before .before .before .before .before .before in
+    let e = else1 (c .before) in
     sym (text-inside (stored (e .before .before) .1) _ _ _ (e .if1 .left) (omega (arith, c .if2 .taken, c .before .pool-length .ensures, c .before .before .wide2 .ensures, c .before .before .before .wide .ensures)))
 
 returns-4 : tie.Need-returns-4
 returns-4 c =
-    let e = c .before .before .before .before .before .before .before in
+    let e = else1 (c .before) in
     sym (text-outside (stored (e .before .before) .1) _ _ _ (e .if1 .left) (omega (arith, c .if2 .left, c .before .pool-length .ensures, c .before .before .wide2 .ensures, c .before .before .before .wide .ensures)))
 
 pub text-spec : {M : Type 1} → statement M

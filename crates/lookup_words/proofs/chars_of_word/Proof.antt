@@ -13,6 +13,11 @@ use borrow.Author.Needs.{needs}
 use Rattle.lookup_words.proofs.chars_of_word.Statement.{statement}
 use Rattle.lookup_words.proofs.chars_of_word.Tie as tie
 
+-- ---- The places that others look back to
+
+abbrev after-tokens-of-word : tie.After-struct-known → tie.After-tokens-of-word
+after-tokens-of-word c = c .before .before .before .before
+
 -- what was found of the word, by the case of the answer
 found : (c : tie.After-tokens-of-word) {a : TokensAnswer} → c .tokens-of-word .result ≡ a →
     let v = c .before .before .before .args in
@@ -33,12 +38,12 @@ enum-known-found-2 c = search needs
 
 sub-offsets-of : tie.Need-sub-offsets-of
 sub-offsets-of c =
-    let after = c .before .before .before .before in
+    let after = after-tokens-of-word c in
     omega (arith, word-ordered _ _ (after .before .before .before .pre) _ _ _ (found after (c .before .before .found2 .given .1)))
 
 offsets-of-requires : tie.Need-offsets-of-requires
 offsets-of-requires c κs =
-    let after = c .before .before .before .before in
+    let after = after-tokens-of-word c in
     let pre = after .before .before .before .pre in
     let word = found after (c .before .before .found2 .given .1) in
     (first-inside _ _ pre _ _ _ word, last-inside _ _ pre _ _ _ word)

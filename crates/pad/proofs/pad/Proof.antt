@@ -13,8 +13,16 @@ use Rattle.pad.proofs.Outcomes.{writes-as, pad-malformed, pad-outside, 
 use Rattle.pad.proofs.pad.Statement.{statement}
 use Rattle.pad.proofs.pad.Tie as tie
 
+-- ---- The places that others look back to
+
+abbrev start : tie.Else1 → tie.Start
+start c = c .before .before .before .before .before .before .before
+
+abbrev after-pad-stored : tie.After-slice-known4 → tie.After-pad-stored
+after-pad-stored c = c .before .before .before .before
+
 -- past the first test there is one encoding
-the-one : (c : tie.Else1) → (E : Encoding) × One (now (c .before .before .before .before .before .before .before .args .nodes)) (now (c .before .before .before .before .before .before .before .args .rows)) E
+the-one : (c : tie.Else1) → (E : Encoding) × One (now (start c .args .nodes)) (now (start c .args .rows)) E
 the-one c = one-there _ _ (sym (c .before .is-one .ensures) ∙ not-false _ (c .if1 .left))
 
 is-one-requires : tie.Need-is-one-requires
@@ -33,14 +41,14 @@ pad-stored-requires : tie.Need-pad-stored-requires
 pad-stored-requires c κs = let o = the-one (c .before .before .before .before) in (forest (o .0 ∷ []), o .1 .stores)
 
 same-length : tie.Need-same-length
-same-length c = c .before .before .before .before .pad-stored .kept .1 .1 .1 .1 .1 .0
+same-length c = after-pad-stored c .pad-stored .kept .1 .1 .1 .1 .1 .0
 
 same-length-2 : tie.Need-same-length-2
-same-length-2 c = c .before .before .before .before .pad-stored .kept .1 .1 .1 .1 .1 .1 .0
+same-length-2 c = after-pad-stored c .pad-stored .kept .1 .1 .1 .1 .1 .1 .0
 
 returns-3 : tie.Need-returns-3
 returns-3 c =
-    let w = c .before .before .before .before in
+    let w = after-pad-stored c in
     let e = w .before .before .before in
     let o = the-one (e .before .before) in
     writes-as (sym (pad-inside (o .1) _ _ _ _ _ _ (sym (e .before .text-inside .ensures) ∙ not-false _ (e .if2 .left)))) (w .pad-stored .ensures (forest (o .0 ∷ [])) (o .1 .stores))

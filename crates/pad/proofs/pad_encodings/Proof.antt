@@ -19,6 +19,14 @@ use Rattle.pad.proofs.Outcomes.{writes-as, capped, encodings-malformed,
 use Rattle.pad.proofs.pad_encodings.Statement.{statement}
 use Rattle.pad.proofs.pad_encodings.Tie as tie
 
+-- ---- The places that others look back to
+
+abbrev after-enum-told : tie.After-rounded-length → tie.After-enum-told
+after-enum-told c = c .before .before .before .before
+
+abbrev after-pad-stored : tie.After-slice-known4 → tie.After-pad-stored
+after-pad-stored c = c .before .before .before .before
+
 abbrev At : tie.After-enum-told → tie.Start
 At c = c .before .before .before .before .before .before .before .before
 
@@ -28,10 +36,10 @@ stored c = any-there _ _ _ (sym (c .before .before .check-batch .ensures) ∙ c 
 
 -- the length that is worked out, as far as 64 bits go
 target : (c : tie.After-rounded-length) →
-    let e = c .before .before .before .before in
+    let e = after-enum-told c in
     c .rounded-length .result ≡ min (targetOf (At e .args .strategy) (At e .args .multiple) (stored e .0)) largestU64
 target c =
-    let e = c .before .before .before .before in
+    let e = after-enum-told c in
     c .rounded-length .ensures ∙ ap (λ (n : ℕ). min (roundedUp n (At e .args .multiple)) largestU64) (c .before .padding-length .ensures (stored e .0) (nodes-of (stored e .1)))
 
 check-batch-requires : tie.Need-check-batch-requires
@@ -59,17 +67,17 @@ rounded-length-requires : tie.Need-rounded-length-requires
 rounded-length-requires c κs = search needs
 
 pad-stored-requires : tie.Need-pad-stored-requires
-pad-stored-requires c κs = stored (c .before .before .before .before .before .before)
+pad-stored-requires c κs = stored (after-enum-told (c .before .before))
 
 same-length : tie.Need-same-length
-same-length c = c .before .before .before .before .pad-stored .kept .1 .1 .1 .1 .1 .0
+same-length c = after-pad-stored c .pad-stored .kept .1 .1 .1 .1 .1 .0
 
 same-length-2 : tie.Need-same-length-2
-same-length-2 c = c .before .before .before .before .pad-stored .kept .1 .1 .1 .1 .1 .1 .0
+same-length-2 c = after-pad-stored c .pad-stored .kept .1 .1 .1 .1 .1 .1 .0
 
 returns-3 : tie.Need-returns-3
 returns-3 c =
-    let w = c .before .before .before .before in
+    let w = after-pad-stored c in
     let g = w .before .before .before in
     let e = g .before .before in
     let o = stored (e .before .before) in

@@ -18,18 +18,23 @@ Inv-loop nodes target total₀ i₀ total i = (i ≤ length nodes) × (total ≤
 abbrev μ-loop : tie.MeasureT-loop
 μ-loop nodes target total₀ i₀ total i = length nodes - i
 
+-- ---- The places that others look back to
+
+abbrev at-loop : tie.After-wide Inv-loop μ-loop → tie.At-loop Inv-loop μ-loop
+at-loop c = c .before .before .before .before
+
 -- a turn passes a whole node
 fits : (c : tie.In-loop Inv-loop μ-loop) → c .before .loop .i + nodeWidth ≤ length (c .before .before .before .args .nodes .now)
 fits c = let p = c .before .before .before .pre in summing-fits (c .before .loop .inv .2 (p .0) (p .1)) (c .loop-test .taken)
 
 -- it adds the rows that the node has then
 rows-here : (c : tie.After-wide Inv-loop μ-loop) →
-    let l = c .before .before .before .before in
+    let l = at-loop c in
     c .wide .result ≡ max (getD (l .before .before .args .nodes .now) (l .loop .i) 0) (l .before .before .args .target)
 rows-here c = c .wide .ensures ∙ c .before .larger-number .ensures
 
 rows-small : (c : tie.After-wide Inv-loop μ-loop) → c .wide .result ≤ 4294967295
-rows-small c = omega (arith, rows-here c, c .before .before .shared-slice-known2 .given (c .before .before .before .before .loop .i))
+rows-small c = omega (arith, rows-here c, c .before .before .shared-slice-known2 .given (at-loop c .loop .i))
 
 loop-holds : tie.Need-loop-holds Inv-loop μ-loop
 loop-holds c = (omega arith, omega arith, λ f h. summing-start _ h)

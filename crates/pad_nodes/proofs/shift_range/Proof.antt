@@ -9,6 +9,11 @@ use Rattle.pad_nodes.proofs.Ranges.{start-at, end-at, absent-copied, sh
 use Rattle.pad_nodes.proofs.shift_range.Statement.{statement}
 use Rattle.pad_nodes.proofs.shift_range.Tie as tie
 
+-- ---- The places that others look back to
+
+abbrev start : tie.Else1 → tie.Start
+start c = c .before .before .before .before
+
 mul-if1 : tie.Need-mul-if1
 mul-if1 c = search needs
 
@@ -39,7 +44,7 @@ shared-slice-read-write-range c = search needs
 
 add-write-range-2 : tie.Need-add-write-range-2
 add-write-range-2 c =
-    let s = c .before .before .before .before .before .before in
+    let s = start (c .before .before) in
     omega (arith, start-at (s .args .nodes .now) (s .args .at), s .pre .small .1, s .pre .few)
 
 add-write-range-3 : tie.Need-add-write-range-3
@@ -53,7 +58,7 @@ shared-slice-read-write-range-2 c = search needs
 
 add-write-range-4 : tie.Need-add-write-range-4
 add-write-range-4 c =
-    let s = c .before .before .before .before .before .before .before in
+    let s = start (c .before .before .before) in
     omega (arith, end-at (s .args .nodes .now) (s .args .at), s .pre .small .2, s .pre .few)
 
 write-range-requires : tie.Need-write-range-requires
@@ -66,7 +71,7 @@ returns-2 : tie.Need-returns-2
 returns-2 c =
     let p = c .before .before in
     let t = p .before .before .before .before in
-    let s = t .before .before .before .before in
+    let s = start t in
     p .write-range .ensures ∙ ap (λ (r : Range). sets (s .args .out .now) (s .args .at) (rangeNumbers r)) (shifted-anew (s .args .nodes .now) (s .args .at) (s .args .shift) (s .pre .small) (t .if1 .left))
 
 pub shift-range-spec : {M : Type 1} → statement M

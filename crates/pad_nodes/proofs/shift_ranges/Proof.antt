@@ -19,6 +19,11 @@ Inv-loop nodes i shift out₀ k₀ at₀ out k at = (k ≤ sequences) × (at ≡
 abbrev μ-loop : tie.MeasureT-loop
 μ-loop nodes i shift out₀ k₀ at₀ out k at = sequences - k
 
+-- ---- The places that others look back to
+
+abbrev start : tie.After-shift-range-arg Inv-loop μ-loop → tie.Start Inv-loop μ-loop
+start c = c .before .before .before .before .before
+
 add-at : tie.Need-add-at Inv-loop μ-loop
 add-at c = search needs
 
@@ -29,7 +34,7 @@ loop-holds c = (omega arith, omega arith, refl, refl)
 shift-range-requires : tie.Need-shift-range-requires Inv-loop μ-loop
 shift-range-requires c κs =
     let l = c .before .before .loop in
-    range-asks (c .before .before .before .before .before .pre) (l .k) (l .out) (l .inv .3) (c .before .loop-test .taken) (l .inv .1)
+    range-asks (start c .pre) (l .k) (l .out) (l .inv .3) (c .before .loop-test .taken) (l .inv .1)
 
 add-k : tie.Need-add-k Inv-loop μ-loop
 add-k c = search needs
@@ -44,7 +49,7 @@ loop-again : tie.Need-loop-again Inv-loop μ-loop
 loop-again c =
     let w = c .before .before in
     let l = w .before .before .before .loop in
-    let v = w .before .before .before .before .before .before .args in
+    let v = start (w .before) .args in
     (omega arith, omega arith, shifted-turn (v .nodes .now) (v .i) (v .shift) (l .k) _ (l .inv .1) (l .inv .2) (w .shift-range .ensures), w .shift-range .kept .1 .1 .1 .0 ∙ l .inv .3)
 
 same-length : tie.Need-same-length Inv-loop μ-loop

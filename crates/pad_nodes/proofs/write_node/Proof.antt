@@ -7,6 +7,14 @@ use Rattle.pad_nodes.proofs.Ranges.{node-left, node-right}
 use Rattle.pad_nodes.proofs.write_node.Statement.{statement}
 use Rattle.pad_nodes.proofs.write_node.Tie as tie
 
+-- ---- The places that others look back to
+
+abbrev start : tie.After-enum-told → tie.Start
+start c = c .before .before .before .before .before
+
+abbrev start-from-enum-told2 : tie.After-enum-told2 → tie.Start
+start-from-enum-told2 c = c .before .before .before .before .before
+
 mul-out : tie.Need-mul-out
 mul-out c = search needs
 
@@ -36,7 +44,7 @@ enum-told c = search needs
 
 shift-ranges-requires : tie.Need-shift-ranges-requires
 shift-ranges-requires c κs =
-    let a = c .before .before .before .before .before .before .pre in
+    let a = start (c .before) .pre in
     record { stands = a .stands; fits = simp length-set (a .fits); few = a .few; small = a .small }
 
 enum-told-2 : tie.Need-enum-told-2
@@ -49,7 +57,7 @@ sub-copy : tie.Need-sub-copy
 sub-copy c = search needs
 
 copy-requires : tie.Need-copy-requires
-copy-requires c κs = let a = c .before .before .before .before .before .before .pre in (omega (arith, a .stands), simp length-set (omega (arith, a .fits)))
+copy-requires c κs = let a = start-from-enum-told2 (c .before) .pre in (omega (arith, a .stands), simp length-set (omega (arith, a .fits)))
 
 same-length : tie.Need-same-length
 same-length c = c .before .before .shift-ranges .kept .1 .1 .1 .0 ∙ simp length-set
@@ -58,7 +66,7 @@ returns : tie.Need-returns
 returns c =
     let r = c .before .before in
     let k = r .before .before in
-    let s = k .before .before .before .before .before in
+    let s = start k in
     node-left (s .args .nodes .now) (s .args .i) (s .args .count) (s .args .new) (s .args .out .now) (k .enum-told .given .1) (r .shift-ranges .ensures)
 
 same-length-2 : tie.Need-same-length-2
@@ -68,7 +76,7 @@ returns-2 : tie.Need-returns-2
 returns-2 c =
     let r = c .before .before in
     let k = r .before .before in
-    let s = k .before .before .before .before .before in
+    let s = start-from-enum-told2 k in
     node-right (s .args .nodes .now) (s .args .i) (s .args .count) (s .args .new) (s .args .out .now) (k .enum-told2 .given .1) (s .pre .stands) (r .copy .ensures)
 
 pub write-node-spec : {M : Type 1} → statement M

@@ -12,9 +12,17 @@ use Rattle.pad_room.proofs.Stored.{stored-no-room, stored-asks, stored-
 use Rattle.pad_room.proofs.pad_stored.Statement.{statement}
 use Rattle.pad_room.proofs.pad_stored.Tie as tie
 
+-- ---- The places that others look back to
+
+abbrev start : tie.Else2 → tie.Start
+start c = c .before .before .before .before .before .before
+
+abbrev after-write-padded : tie.After-slice-known4 → tie.After-write-padded
+after-write-padded c = c .before .before .before .before
+
 -- what is measured is the rows of the result
 measured : (c : tie.After-padded-rows) →
-    let s = c .before .before .before .before .before .before .before in
+    let s = start (c .before) in
     (f : Forest) → Stores (s .args .nodes .now) (s .args .rows .now) f → c .padded-rows .result ≡ rowsWith (s .args .target) f
 measured c f h = c .padded-rows .ensures f (nodes-of h)
 
@@ -28,7 +36,7 @@ cast-length : tie.Need-cast-length
 cast-length c = search needs
 
 padded-rows-requires : tie.Need-padded-rows-requires
-padded-rows-requires c κs = let p = c .before .before .before .before .before .before .pre in (p .0, nodes-of (p .1))
+padded-rows-requires c κs = let p = start c .pre in (p .0, nodes-of (p .1))
 
 returns-3 : tie.Need-returns-3
 returns-3 c = λ f h. writes-refused NoRoom (stored-no-room h _ _ _ _ _ (λ few n r. omega (arith, c .if3 .taken, measured (c .before) f h))) refl refl refl refl
@@ -46,20 +54,20 @@ write-padded-requires : tie.Need-write-padded-requires
 write-padded-requires c κs =
     let e = c .before .before in
     let m = e .before .before .before in
-    let p = m .before .before .before .before .before .before .before .pre in
+    let p = start (m .before) .pre in
     let t = measured m (p .0) (p .1) in
-    let v = m .before .before .before .before .before .before .before .args in
+    let v = start (m .before) .args in
     stored-asks (p .1) _ (v .token) (v .direction) _ _ (omega (arith, e .before .before .if3 .left)) (e .before .if4 .left) (omega (arith, e .if5 .left))
 
 same-length : tie.Need-same-length
-same-length c = c .before .before .before .before .write-padded .kept .1 .1 .1 .1 .1 .0
+same-length c = after-write-padded c .write-padded .kept .1 .1 .1 .1 .1 .0
 
 same-length-2 : tie.Need-same-length-2
-same-length-2 c = c .before .before .before .before .write-padded .kept .1 .1 .1 .1 .1 .1 .0
+same-length-2 c = after-write-padded c .write-padded .kept .1 .1 .1 .1 .1 .1 .0
 
 returns-6 : tie.Need-returns-6
 returns-6 c = λ f h.
-    let w = c .before .before .before .before in
+    let w = after-write-padded c in
     let e = w .before .before .before in
     let m = e .before .before .before in
     let t = measured m f h in

@@ -6,6 +6,11 @@ use Rattle.process_check.specs.Contracts.{DecidesProcess}
 use Rattle.process.proofs.process.Statement.{statement}
 use Rattle.process.proofs.process.Tie as tie
 
+-- ---- The places that others look back to
+
+abbrev after-decision2 : tie.After-apply-steps-arg4 → tie.After-decision2
+after-decision2 c = c .before .before .before .before .before .before
+
 slice-aggregate-decide : tie.Need-slice-aggregate-decide
 slice-aggregate-decide c = search needs
 
@@ -23,7 +28,7 @@ slice-aggregate-apply-steps c = search needs
 
 apply-steps-requires : tie.Need-apply-steps-requires
 apply-steps-requires c κs =
-    let m = c .before .before .before .before .before .before in
+    let m = after-decision2 c in
     let d = subst (DecidesProcess _ _ _ _ _ _) (m .decision2 .given .1) (m .before .before .before .decide .ensures) in
     record { E = d .E; second = d .second; steps = d .steps; steps-here = d .steps-here }
 
@@ -47,7 +52,7 @@ same-length-4 c = search needs
 returns-2 : tie.Need-returns-2
 returns-2 c =
     let a = c .before .before .before .before .before .before .before .before in
-    let m = a .before .before .before .before .before .before .before in
+    let m = after-decision2 (a .before) in
     let d = subst (DecidesProcess _ _ _ _ _ _) (m .decision2 .given .1) (m .before .before .before .decide .ensures) in
     rw (d .folded) (a .apply-steps .ensures (d .E) (d .second) (d .steps) (d .steps-here))
 

@@ -18,6 +18,11 @@ Inv-loop text add entries added steps₀ at₀ count₀ steps at count = Plannin
 abbrev μ-loop : tie.MeasureT-loop
 μ-loop text add entries added steps₀ at₀ count₀ steps at count = length text + 1 - at
 
+-- ---- The places that others look back to
+
+abbrev after-step : tie.After-slice-known2 Inv-loop μ-loop → tie.After-step Inv-loop μ-loop
+after-step c = c .before .before .before .before .before
+
 -- the place where the call began, from the loop
 abbrev Began : tie.At-loop Inv-loop μ-loop → tie.Start Inv-loop μ-loop
 Began c = c .before .before .before .before .before
@@ -78,13 +83,13 @@ write-step-requires : tie.Need-write-step-requires Inv-loop μ-loop
 write-step-requires c κs = let l = c .before .before .before .before .before in plan-room (l .loop .inv) (step (c .before .before)) (Began l .pre)
 
 add-count : tie.Need-add-count Inv-loop μ-loop
-add-count c = let s = c .before .before .before .before .before in let l = s .before .before .before in omega (arith, plan-few (l .loop .inv) (step s) (Began l .pre))
+add-count c = let s = after-step c in let l = s .before .before .before in omega (arith, plan-few (l .loop .inv) (step s) (Began l .pre))
 
 loop-less-2 : tie.Need-loop-less-2 Inv-loop μ-loop
-loop-less-2 c = step (c .before .before .before .before .before) .less
+loop-less-2 c = step (after-step c) .less
 
 loop-again-2 : tie.Need-loop-again-2 Inv-loop μ-loop
-loop-again-2 c = let s = c .before .before .before .before .before in plan-step (s .before .before .before .loop .inv) (step s) (c .before .before .write-step .ensures)
+loop-again-2 c = let s = after-step c in plan-step (s .before .before .before .loop .inv) (step s) (c .before .before .write-step .ensures)
 
 pub plan-spec : {M : Type 1} → statement M
 plan-spec =

@@ -11,8 +11,13 @@ use Rattle.process_plan.proofs.Piece.{answer-a, answer-b, answer-unknow
 use Rattle.process_plan.proofs.step_of.Statement.{statement}
 use Rattle.process_plan.proofs.step_of.Tie as tie
 
+-- ---- The places that others look back to
+
+abbrev start : tie.Else2 → tie.Start
+start c = c .before .before .before .before .before
+
 -- the entry that was found is one of the table
-among : (c : tie.After-i) → c .i .given .0 .0 < length (now (c .before .before .before .before .before .before .before .before .args .entries)) / entryWidth
+among : (c : tie.After-i) → c .i .given .0 .0 < length (now (start (c .before .before .before) .args .entries)) / entryWidth
 among c = found-among _ _ _ (sym (c .before .before .find .ensures) ∙ c .i .given .1)
 
 returns : tie.Need-returns
@@ -22,7 +27,7 @@ returns-2 : tie.Need-returns-2
 returns-2 c = answer-b _ _ _ _ (c .before .if1 .left) (c .if2 .taken)
 
 find-requires : tie.Need-find-requires
-find-requires c κs = c .before .before .before .before .before .pre .ids
+find-requires c κs = start c .pre .ids
 
 enum-known-i : tie.Need-enum-known-i
 enum-known-i c = search needs
@@ -34,7 +39,7 @@ returns-3 : tie.Need-returns-3
 returns-3 c = answer-unknown _ _ _ _ (c .before .before .before .before .if1 .left) (c .before .before .before .if2 .left) (sym (c .before .before .find .ensures) ∙ c .enum-told .given .1)
 
 cast-t11 : tie.Need-cast-t11
-cast-t11 c = omega (arith, among (c .before), c .before .before .before .before .before .before .before .before .before .pre .few)
+cast-t11 c = omega (arith, among (c .before), start (c .before .before .before .before) .pre .few)
 
 returns-4 : tie.Need-returns-4
 returns-4 c =

@@ -25,20 +25,25 @@ Inv-loop nodes second entries steps count of-first of-second rows₀ i₀ rows i
 abbrev μ-loop : tie.MeasureT-loop
 μ-loop nodes second entries steps count of-first of-second rows₀ i₀ rows i = count - i
 
+-- ---- The places that others look back to
+
+abbrev start : tie.After-rows-at Inv-loop μ-loop → tie.Start Inv-loop μ-loop
+start c = c .before .before .before .before
+
 rows-at-requires : tie.Need-rows-at-requires Inv-loop μ-loop
 rows-at-requires c κs = let a = c .before .before .before .pre in record { there = some (a .E); stands = a .steps-of .first-stands }
 
 rows-at-requires-2 : tie.Need-rows-at-requires-2 Inv-loop μ-loop
-rows-at-requires-2 c κs = let a = c .before .before .before .before .pre in record { there = a .second; stands = a .steps-of .second-stands }
+rows-at-requires-2 c κs = let a = start c .pre in record { there = a .second; stands = a .steps-of .second-stands }
 
 loop-holds : tie.Need-loop-holds Inv-loop μ-loop
 loop-holds c = (omega arith, λ members E o list h e f. walked-start list alone-empty)
 
 step-at-requires : tie.Need-step-at-requires Inv-loop μ-loop
-step-at-requires c κs = let a = c .before .before .before .before .before .before .before .pre in steps-inside _ (a .steps-of) (c .loop-test .taken)
+step-at-requires c κs = let a = start (c .before .before .before) .pre in steps-inside _ (a .steps-of) (c .loop-test .taken)
 
 rows-of-requires : tie.Need-rows-of-requires Inv-loop μ-loop
-rows-of-requires c κs = let l = c .before in let a = l .before .before .before .before .before .before .before .pre in step-there (a .steps-of) (l .loop-test .taken) (c .step-at .ensures)
+rows-of-requires c κs = let l = c .before in let a = start (l .before .before .before) .pre in step-there (a .steps-of) (l .loop-test .taken) (c .step-at .ensures)
 
 wide-requires : tie.Need-wide-requires Inv-loop μ-loop
 wide-requires c κs = search needs
@@ -46,7 +51,7 @@ wide-requires c κs = search needs
 add-rows : tie.Need-add-rows Inv-loop μ-loop
 add-rows c =
     let l = c .before .before .before in
-    let a = l .before .before .before .before .before .before .before .pre in
+    let a = start (l .before .before .before) .pre in
     omega (arith, l .before .loop .inv .0, l .loop-test .taken, a .steps-of .few, c .wide .ensures, c .before .rows-of .ok)
 
 add-i : tie.Need-add-i Inv-loop μ-loop

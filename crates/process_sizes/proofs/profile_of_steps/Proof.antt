@@ -25,11 +25,16 @@ Inv-loop nodes second entries steps count of-first of-second so-far₀ i₀ so-f
 abbrev μ-loop : tie.MeasureT-loop
 μ-loop nodes second entries steps count of-first of-second so-far₀ i₀ so-far i = count - i
 
+-- ---- The places that others look back to
+
+abbrev start : tie.After-profile-of Inv-loop μ-loop → tie.Start Inv-loop μ-loop
+start c = c .before .before .before .before
+
 profile-of-requires : tie.Need-profile-of-requires Inv-loop μ-loop
 profile-of-requires c κs = let a = c .before .before .before .pre in record { there = some (a .E); stands = a .steps-of .first-stands }
 
 profile-of-requires-2 : tie.Need-profile-of-requires-2 Inv-loop μ-loop
-profile-of-requires-2 c κs = let a = c .before .before .before .before .pre in record { there = a .second; stands = a .steps-of .second-stands }
+profile-of-requires-2 c κs = let a = start c .pre in record { there = a .second; stands = a .steps-of .second-stands }
 
 empty-profile-requires : tie.Need-empty-profile-requires Inv-loop μ-loop
 empty-profile-requires c κs = search needs
@@ -38,13 +43,13 @@ loop-holds : tie.Need-loop-holds Inv-loop μ-loop
 loop-holds c = λ members E o list h. walked-start list (c .empty-profile .ensures, record { few-nodes = omega arith; few-rows = omega arith; few-levels = omega arith })
 
 step-at-requires : tie.Need-step-at-requires Inv-loop μ-loop
-step-at-requires c κs = let a = c .before .before .before .before .before .before .before .before .pre in steps-inside _ (a .steps-of) (c .loop-test .taken)
+step-at-requires c κs = let a = start (c .before .before .before .before) .pre in steps-inside _ (a .steps-of) (c .loop-test .taken)
 
 with-step-requires : tie.Need-with-step-requires Inv-loop μ-loop
 with-step-requires c κs =
     let l = c .before in
     let first = l .before .before .before .before in
-    let a = first .before .before .before .before .pre in
+    let a = start first .pre in
     let h = a .steps-of in
     let (is, fits) = l .before .loop .inv (a .members) (a .E) (a .second) (a .steps) h .has in
     record {
@@ -68,7 +73,7 @@ returns c = λ members E o list h.
 add-i : tie.Need-add-i Inv-loop μ-loop
 add-i c =
     let l = c .before .before .before .before .before in
-    let a = l .before .before .before .before .before .before .before .before .pre in
+    let a = start (l .before .before .before .before) .pre in
     omega (arith, l .loop-test .taken, a .steps-of .few)
 
 loop-less : tie.Need-loop-less Inv-loop μ-loop

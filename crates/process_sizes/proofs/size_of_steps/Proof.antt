@@ -12,11 +12,16 @@ use Rattle.process_sizes.proofs.Alone.{alone-sizes}
 use Rattle.process_sizes.proofs.size_of_steps.Statement.{statement}
 use Rattle.process_sizes.proofs.size_of_steps.Tie as tie
 
+-- ---- The places that others look back to
+
+abbrev start : tie.After-is-windowless → tie.Start
+start c = c .before .before .before .before
+
 is-windowless-requires : tie.Need-is-windowless-requires
 is-windowless-requires c κs = let a = c .before .before .before .pre in record { there = some (a .E); stands = a .steps-of .first-stands }
 
 is-windowless-requires-2 : tie.Need-is-windowless-requires-2
-is-windowless-requires-2 c κs = let a = c .before .before .before .before .before .pre in record { there = a .second; stands = a .steps-of .second-stands }
+is-windowless-requires-2 c κs = let a = start (c .before) .pre in record { there = a .second; stands = a .steps-of .second-stands }
 
 rows-of-steps-requires : tie.Need-rows-of-steps-requires
 rows-of-steps-requires c κs = search needs
@@ -34,7 +39,7 @@ profile-of-steps-requires c κs = search needs
 
 size-of-requires : tie.Need-size-of-requires
 size-of-requires c κs =
-    let a = c .before .before .before .before .before .before .pre in
+    let a = start (c .before .before) .pre in
     measured-profiled (c .profile-of-steps .ensures (a .members) (a .E) (a .second) (a .steps) (a .steps-of))
 
 returns-2 : tie.Need-returns-2

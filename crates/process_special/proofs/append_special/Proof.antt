@@ -5,6 +5,14 @@ use Rattle.process_special.proofs.Appending.{room-in-place, put-in-plac
 use Rattle.process_special.proofs.append_special.Statement.{statement}
 use Rattle.process_special.proofs.append_special.Tie as tie
 
+-- ---- The places that others look back to
+
+abbrev start : tie.After-wide → tie.Start
+start c = c .before .before .before .before .before .before .before .before
+
+abbrev after-wide : tie.After-slice-known9 → tie.After-wide
+after-wide c = c .before .before .before .before
+
 slice-read-if1 : tie.Need-slice-read-if1
 slice-read-if1 c = search needs
 
@@ -30,16 +38,16 @@ wide-requires : tie.Need-wide-requires
 wide-requires c κs = search needs
 
 mul-end : tie.Need-mul-end
-mul-end c = let s = c .before .before .before .before .before .before .before .before in omega (arith, c .wide .ensures, room-in-place _ _ _ _ (s .pre) .0)
+mul-end c = let s = start c in omega (arith, c .wide .ensures, room-in-place _ _ _ _ (s .pre) .0)
 
 write-specials-requires : tie.Need-write-specials-requires
-write-specials-requires c κs = let s = c .before .before .before .before .before .before .before .before .before in (s .pre .among, omega (arith, c .before .wide .ensures, room-in-place _ _ _ _ (s .pre) .1))
+write-specials-requires c κs = let s = start (c .before) in (s .pre .among, omega (arith, c .before .wide .ensures, room-in-place _ _ _ _ (s .pre) .1))
 
 cast-out-nodes : tie.Need-cast-out-nodes
-cast-out-nodes c = omega (arith, room-in-place _ _ _ _ (c .before .before .before .before .before .before .before .before .before .before .before .before .pre) .0)
+cast-out-nodes c = omega (arith, room-in-place _ _ _ _ (start (after-wide c) .pre) .0)
 
 add-out-nodes : tie.Need-add-out-nodes
-add-out-nodes c = omega (arith, room-in-place _ _ _ _ (c .before .before .before .before .before .before .before .before .before .before .before .before .pre) .0)
+add-out-nodes c = omega (arith, room-in-place _ _ _ _ (start (after-wide c) .pre) .0)
 
 slice-write-out-nodes : tie.Need-slice-write-out-nodes
 slice-write-out-nodes c = search needs
@@ -54,7 +62,7 @@ returns-2 : tie.Need-returns-2
 returns-2 c = λ S h.
     let p = c .before .before in
     let w = p .before .before in
-    let s = w .before .before .before .before .before .before .before .before in
+    let s = start w in
     put-in-place (s .args .members .now) (s .args .first) (s .args .count) (s .args .type-id) S (s .pre .among) h (w .before .before .if1 .left) (w .wide .ensures) (p .write-specials .ensures)
 
 pub append-special-spec : {M : Type 1} → statement M

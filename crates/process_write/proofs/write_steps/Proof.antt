@@ -19,38 +19,52 @@ Inv-loop nodes rows second entries members steps count out-nodes₀ out-rows₀ 
 abbrev μ-loop : tie.MeasureT-loop
 μ-loop nodes rows second entries members steps count out-nodes₀ out-rows₀ working-nodes₀ working-rows₀ i₀ out-nodes out-rows working-nodes working-rows i = count - i
 
+-- ---- The places that others look back to
+
+abbrev the-start : tie.After-start-arg Inv-loop μ-loop → tie.Start Inv-loop μ-loop
+the-start c = c .before .before .before .before .before .before .before .before .before .before
+
+abbrev after-start-arg : tie.At-loop Inv-loop μ-loop → tie.After-start-arg Inv-loop μ-loop
+after-start-arg c = c .before .before .before .before
+
+abbrev in-loop : tie.After-slice-known9 Inv-loop μ-loop → tie.In-loop Inv-loop μ-loop
+in-loop c = c .before .before .before .before .before .before .before .before .before .before .before .before .before .before
+
+abbrev after-step-at : tie.After-write-step-arg4 Inv-loop μ-loop → tie.After-step-at Inv-loop μ-loop
+after-step-at c = c .before .before .before .before
+
 -- where the loop begins, the empty encoding is written
-begun : (c : tie.After-slice-known5 Inv-loop μ-loop) → let v = c .before .before .before .before .before .before .before .before .before .before .before .before .before .args in Put (empty ∷ []) (now (v .out-nodes)) 0 (now (v .out-rows)) 0 (c .before .before .start .last .0) (now (v .out-rows))
+begun : (c : tie.After-slice-known5 Inv-loop μ-loop) → let v = the-start (c .before .before .before) .args in Put (empty ∷ []) (now (v .out-nodes)) 0 (now (v .out-rows)) 0 (c .before .before .start .last .0) (now (v .out-rows))
 begun c = empty-put (c .before .before .start .ensures)
 
 start-requires : tie.Need-start-requires Inv-loop μ-loop
-start-requires c κs = asks-start (c .before .before .before .before .before .before .before .before .before .before .pre)
+start-requires c κs = asks-start (the-start c .pre)
 
 loop-holds : tie.Need-loop-holds Inv-loop μ-loop
 loop-holds c = going-start (begun c)
 
 step-at-requires : tie.Need-step-at-requires Inv-loop μ-loop
-step-at-requires c κs = let l = c .before in going-inside (begun (l .before)) (l .loop .inv) (l .before .before .before .before .before .before .before .before .before .before .before .before .before .before .pre) (c .loop-test .taken)
+step-at-requires c κs = let l = c .before in going-inside (begun (l .before)) (l .loop .inv) (the-start (after-start-arg l) .pre) (c .loop-test .taken)
 
 write-step-requires : tie.Need-write-step-requires Inv-loop μ-loop
-write-step-requires c κs = let r = c .before .before .before .before in let l = r .before .before in going-asks (begun (l .before)) (l .loop .inv) (l .before .before .before .before .before .before .before .before .before .before .before .before .before .before .pre) (r .before .loop-test .taken) (r .step-at .ensures)
+write-step-requires c κs = let r = after-step-at c in let l = r .before .before in going-asks (begun (l .before)) (l .loop .inv) (the-start (after-start-arg l) .pre) (r .before .loop-test .taken) (r .step-at .ensures)
 
 add-i : tie.Need-add-i Inv-loop μ-loop
-add-i c = omega (arith, c .before .before .before .before .before .before .before .before .before .before .before .before .before .before .loop-test .taken)
+add-i c = omega (arith, in-loop c .loop-test .taken)
 
 loop-less : tie.Need-loop-less Inv-loop μ-loop
-loop-less c = omega (arith, c .before .before .before .before .before .before .before .before .before .before .before .before .before .before .loop-test .taken)
+loop-less c = omega (arith, in-loop c .loop-test .taken)
 
 loop-again : tie.Need-loop-again Inv-loop μ-loop
 loop-again c =
     let w = c .before .before .before .before .before .before .before .before in
-    let r = w .before .before .before .before .before in
+    let r = after-step-at (w .before) in
     let l = r .before .before in
     going-more (begun (l .before)) (l .loop .inv) (r .before .loop-test .taken) (r .step-at .ensures) (w .write-step .ensures) (w .write-step .kept .1 .1 .1 .1 .1 .1 .1 .1 .0) (w .write-step .kept .1 .1 .1 .1 .1 .1 .1 .1 .1 .0)
 
 -- past the loop
-lengths : (c : tie.After-loop Inv-loop μ-loop) → let l = c .before in let v = l .before .before .before .before .before .before .before .before .before .before .before .before .before .before .args in (length (l .loop .out-nodes) ≡ length (l .before .before .before .start .last .0)) × (length (l .loop .out-rows) ≡ length (now (v .out-rows))) × (length (l .loop .working-nodes) ≡ length (now (v .working-nodes))) × (length (l .loop .working-rows) ≡ length (now (v .working-rows)))
-lengths c = let l = c .before in going-lengths (begun (l .before)) (l .loop .inv) (l .before .before .before .before .before .before .before .before .before .before .before .before .before .before .pre)
+lengths : (c : tie.After-loop Inv-loop μ-loop) → let l = c .before in let v = the-start (after-start-arg l) .args in (length (l .loop .out-nodes) ≡ length (l .before .before .before .start .last .0)) × (length (l .loop .out-rows) ≡ length (now (v .out-rows))) × (length (l .loop .working-nodes) ≡ length (now (v .working-nodes))) × (length (l .loop .working-rows) ≡ length (now (v .working-rows)))
+lengths c = let l = c .before in going-lengths (begun (l .before)) (l .loop .inv) (the-start (after-start-arg l) .pre)
 
 same-length : tie.Need-same-length Inv-loop μ-loop
 same-length c = lengths c .0 ∙ c .before .before .before .before .start .kept .0

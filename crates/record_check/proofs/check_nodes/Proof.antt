@@ -21,6 +21,14 @@ Inv-loop nodes rows pending₀ depth₀ i₀ j₀ tops₀ pending depth i j tops
 abbrev μ-loop : tie.MeasureT-loop
 μ-loop nodes rows pending₀ depth₀ i₀ j₀ tops₀ pending depth i j tops = (length nodes - i) + depth
 
+-- ---- The places that others look back to
+
+abbrev joined1 : tie.After-shared-slice-known4 Inv-loop μ-loop → tie.Joined1 Inv-loop μ-loop
+joined1 c = c .before .before .before .before .before
+
+abbrev else5 : tie.Then6 Inv-loop μ-loop → tie.Else5 Inv-loop μ-loop
+else5 c = c .before .before .before .before
+
 abbrev Nodes : tie.At-loop Inv-loop μ-loop → List ℕ
 Nodes c = now (c .before .before .before .args .nodes)
 
@@ -128,8 +136,8 @@ add-i c = search needs
 
 returns-4 : tie.Need-returns-4 Inv-loop μ-loop
 returns-4 c =
-    let d = c .before .before .before .before .before .before .before in
-    due-deep (d .before .loop .inv) (due d) (fits (c .before .before .before .before .before)) (c .before .if6 .taken) (omega arith)
+    let d = joined1 (c .before .before) in
+    due-deep (d .before .loop .inv) (due d) (fits (else5 (c .before))) (c .before .if6 .taken) (omega arith)
 
 mul-pending-2 : tie.Need-mul-pending-2 Inv-loop μ-loop
 mul-pending-2 c = search needs
@@ -141,11 +149,11 @@ add-depth : tie.Need-add-depth Inv-loop μ-loop
 add-depth c = search needs
 
 loop-less-2 : tie.Need-loop-less-2 Inv-loop μ-loop
-loop-less-2 c = omega (arith, fits (c .before .before .before .before .before) .whole)
+loop-less-2 c = omega (arith, fits (else5 (c .before)) .whole)
 
 loop-again-2 : tie.Need-loop-again-2 Inv-loop μ-loop
 loop-again-2 c =
-    let d = c .before .before .before .before .before .before .before in
+    let d = joined1 (c .before .before) in
     let w = c .before .before .before in
     due-push (d .before .loop .inv) (due d) (fits (w .before .before)) _ (w .wide .ensures) (omega arith)
 
@@ -154,7 +162,7 @@ loop-less-3 c = omega (arith, fits (c .before .before .before .before) .whole)
 
 loop-again-3 : tie.Need-loop-again-3 Inv-loop μ-loop
 loop-again-3 c =
-    let d = c .before .before .before .before .before .before in
+    let d = joined1 (c .before) in
     let w = c .before .before in
     due-skip (d .before .loop .inv) (due d) (fits (w .before .before)) _ (w .wide .ensures) (c .if6 .left)
 

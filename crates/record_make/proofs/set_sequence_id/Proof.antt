@@ -13,9 +13,20 @@ use Rattle.record_make.proofs.Sequence.{sequence-malformed, sequence-ab
 use Rattle.record_make.proofs.set_sequence_id.Statement.{statement}
 use Rattle.record_make.proofs.set_sequence_id.Tie as tie
 
+-- ---- The places that others look back to
+
+abbrev start : tie.After-is-one → tie.Start
+start c = c .before .before .before .before .before
+
+abbrev else1 : tie.After-shared-slice-known3 → tie.Else1
+else1 c = c .before .before .before .before .before .before .before .before .before .before .before .before .before
+
+abbrev after-copy : tie.After-copy2 → tie.After-copy
+after-copy c = c .before .before .before .before
+
 -- past the first test there is one encoding
 there : (o : tie.Else1) →
-    let v = o .before .before .before .before .before .before .args in
+    let v = start (o .before) .args in
     (E : Encoding) × One (v .nodes .now) (v .rows .now) E
 there o = one-there _ _ (sym (o .before .is-one .ensures) ∙ not-false (o .before .is-one .result) (o .if1 .left))
 
@@ -24,24 +35,24 @@ is-one-requires c κs = search needs
 
 returns : tie.Need-returns
 returns c =
-    let v = c .before .before .before .before .before .before .args in
+    let v = start (c .before) .args in
     writes-refused MalformedRecord (sequence-malformed _ (v .sequence-id) (v .out-nodes .now) (v .out-rows .now) (sym (c .before .is-one .ensures) ∙ not-true (c .before .is-one .result) (c .if1 .taken))) refl refl refl refl
 
 returns-2 : tie.Need-returns-2
 returns-2 c =
-    let v = c .before .before .before .before .before .before .before .args in
+    let v = start (c .before .before) .args in
     let (E, h) = there (c .before) in
     writes-refused SequenceIdAboveLast (sequence-above (v .sequence-id) h (v .out-nodes .now) (v .out-rows .now) (c .if2 .taken)) refl refl refl refl
 
 returns-3 : tie.Need-returns-3
 returns-3 c =
-    let v = c .before .before .before .before .before .before .before .before .args in
+    let v = start (c .before .before .before) .args in
     let (E, h) = there (c .before .before) in
     writes-refused NoRoom (sequence-no-room (v .sequence-id) h (v .out-nodes .now) (v .out-rows .now) (c .before .if2 .left) (λ nodes rows. omega (arith, c .if3 .taken))) refl refl refl refl
 
 returns-4 : tie.Need-returns-4
 returns-4 c =
-    let v = c .before .before .before .before .before .before .before .before .before .args in
+    let v = start (c .before .before .before .before) .args in
     let (E, h) = there (c .before .before .before) in
     writes-refused NoRoom (sequence-no-room (v .sequence-id) h (v .out-nodes .now) (v .out-rows .now) (c .before .before .if2 .left) (λ nodes rows. omega (arith, c .if4 .taken))) refl refl refl refl
 
@@ -59,13 +70,13 @@ add-write-range c = search needs
 
 shared-slice-read-write-range : tie.Need-shared-slice-read-write-range
 shared-slice-read-write-range c =
-    let (E, h) = there (c .before .before .before .before .before .before .before .before .before .before .before .before .before) in
+    let (E, h) = there (else1 c) in
     omega (arith, one-nodes-long h)
 
 write-range-requires : tie.Need-write-range-requires
 write-range-requires c κs =
-    let (E, h) = there (c .before .before .before .before .before .before .before .before .before .before .before .before .before) in
-    omega (arith, one-nodes-long h, c .before .before .before .before .before .before .before .before .copy .kept .1 .1 .1 .0, c .before .before .before .before .before .before .before .before .before .before .before .if3 .left, c .before .before .before .before .before .before .before .before .before .before .before .before .if2 .left)
+    let (E, h) = there (else1 c) in
+    omega (arith, one-nodes-long h, after-copy (c .before .before .before .before) .copy .kept .1 .1 .1 .0, c .before .before .before .before .before .before .before .before .before .before .before .if3 .left, c .before .before .before .before .before .before .before .before .before .before .before .before .if2 .left)
 
 same-length : tie.Need-same-length
 same-length c = search needs
@@ -77,9 +88,9 @@ returns-5 : tie.Need-returns-5
 returns-5 c =
     let written = c .before .before in
     let rows-copied = written .before .before .before .before .before in
-    let copied = rows-copied .before .before .before .before in
+    let copied = after-copy rows-copied in
     let tests = copied .before .before in
-    let v = tests .before .before .before .before .before .before .before .before .before .args in
+    let v = start (tests .before .before .before .before) .args in
     let (E, h) = there (tests .before .before .before) in
     sequence-written (v .sequence-id) h (v .out-nodes .now) (v .out-rows .now) (tests .before .before .if2 .left) (tests .before .if3 .left) (tests .if4 .left)
     (sets-copied (v .out-nodes .now) (v .nodes .now) (copied .copy .ensures))

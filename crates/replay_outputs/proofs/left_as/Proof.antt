@@ -5,7 +5,7 @@ use mathlib.Core.Bool.{Bool, true, false}
 use native.Mathlib.Omega.{arith}
 use Prim.Native.Nat.{ℕ}
 use borrow.Author.Needs.{needs}
-use Rattle.replay_answers.specs.Contracts.{Decides}
+use Rattle.lists.specs.Lists.{Decides}
 use Rattle.replay_outputs.proofs.left_as.Statement.{statement}
 use Rattle.replay_outputs.proofs.left_as.Tie as tie
 

@@ -5,6 +5,11 @@ use borrow.Author.Needs.{needs}
 use Rattle.template_entries.proofs.entry_fits.Statement.{statement}
 use Rattle.template_entries.proofs.entry_fits.Tie as tie
 
+-- ---- The places that others look back to
+
+abbrev start : tie.After-end-of → tie.Start
+start c = c .before .before .before .before
+
 mul-at : tie.Need-mul-at
 mul-at c = search needs
 
@@ -30,7 +35,7 @@ end-of-requires : tie.Need-end-of-requires
 end-of-requires c κs = search needs
 
 returns : tie.Need-returns
-returns c = entry-out _ _ _ _ (c .before .before .before .before .before .pre) (omega (arith, c .if1 .taken, c .before .end-of .ensures))
+returns c = entry-out _ _ _ _ (start (c .before) .pre) (omega (arith, c .if1 .taken, c .before .end-of .ensures))
 
 add-end-of-3 : tie.Need-add-end-of-3
 add-end-of-3 c = search needs
@@ -54,7 +59,7 @@ end-of-requires-2 : tie.Need-end-of-requires-2
 end-of-requires-2 c κs = search needs
 
 returns-2 : tie.Need-returns-2
-returns-2 c = rw (c .end-of2 .ensures) (entry-in _ _ _ _ (c .before .before .before .before .before .before .before .before .pre) (omega (arith, c .before .before .before .if1 .left, c .before .before .before .before .end-of .ensures)))
+returns-2 c = rw (c .end-of2 .ensures) (entry-in _ _ _ _ (start (c .before .before .before .before) .pre) (omega (arith, c .before .before .before .if1 .left, c .before .before .before .before .end-of .ensures)))
 
 pub entry-fits-spec : {M : Type 1} → statement M
 entry-fits-spec =

@@ -16,6 +16,11 @@ Inv-loop entries added id i₀ i = Searching (entryHasId added id) (entriesIn en
 abbrev μ-loop : tie.MeasureT-loop
 μ-loop entries added id i₀ i = i
 
+-- ---- The places that others look back to
+
+abbrev start : tie.In-loop Inv-loop μ-loop → tie.Start Inv-loop μ-loop
+start c = c .before .before .before .before .before
+
 loop-holds : tie.Need-loop-holds Inv-loop μ-loop
 loop-holds c = search-start _ _ _ (sym (entries-number _))
 
@@ -23,7 +28,7 @@ sub-i : tie.Need-sub-i Inv-loop μ-loop
 sub-i c = search needs
 
 has-id-requires : tie.Need-has-id-requires Inv-loop μ-loop
-has-id-requires c κs = record { ids = c .before .before .before .before .before .pre; among = omega (arith, c .before .loop .inv .inside, entries-number (now (c .before .before .before .before .before .args .entries))) }
+has-id-requires c κs = record { ids = start c .pre; among = omega (arith, c .before .loop .inv .inside, entries-number (now (start c .args .entries))) }
 
 returns : tie.Need-returns Inv-loop μ-loop
 unfolding entryAnswer

@@ -8,6 +8,11 @@ use borrow.Author.Needs.{needs}
 use Rattle.template_find.proofs.has_id.Statement.{statement}
 use Rattle.template_find.proofs.has_id.Tie as tie
 
+-- ---- The places that others look back to
+
+abbrev start : tie.After-shared-slice-known4 → tie.Start
+start c = c .before .before .before .before
+
 mul-at : tie.Need-mul-at
 mul-at c = search needs
 
@@ -21,7 +26,7 @@ shared-slice-read-start : tie.Need-shared-slice-read-start
 shared-slice-read-start c = search needs
 
 cast-start : tie.Need-cast-start
-cast-start c = omega (arith, c .shared-slice-known4 .given (c .before .before .before .before .args .i * entryWidth + 0))
+cast-start c = omega (arith, c .shared-slice-known4 .given (start c .args .i * entryWidth + 0))
 
 add-end-of : tie.Need-add-end-of
 add-end-of c = search needs
@@ -52,7 +57,7 @@ part-same-start c = search needs
 
 part-same-end : tie.Need-part-same-end
 part-same-end c =
-    let asked = c .before .before .before .before .before .before .before .pre in
+    let asked = start (c .before .before .before) .pre in
     omega (arith, c .end-of .ensures, id-inside (asked .ids) (asked .among))
 
 same-requires : tie.Need-same-requires
@@ -60,7 +65,7 @@ same-requires c κs = search needs
 
 returns : tie.Need-returns
 returns c =
-    let asked = c .before .before .before .before .before .before .before .before .before .pre in
+    let asked = start (c .before .before .before .before .before) .pre in
     c .same .ensures ∙ id-same (asked .ids) (asked .among) _ (c .before .before .end-of .ensures)
 
 pub has-id-spec : {M : Type 1} → statement M

@@ -12,6 +12,11 @@ use borrow.Author.Needs.{needs}
 use Rattle.template_pieces.proofs.piece_of.Statement.{statement}
 use Rattle.template_pieces.proofs.piece_of.Tie as tie
 
+-- ---- The places that others look back to
+
+abbrev else1 : tie.After-type-id → tie.Else1
+else1 c = c .before .before .before .before
+
 -- the places where the colon was found, and where it was looked for
 abbrev Found : tie.Else1 → tie.After-find
 Found c = c .before
@@ -62,7 +67,7 @@ returns-2 c =
     typed-none _ _ (sym (c .before .before .read-number .ensures) ∙ c .enum-told .given .1) ∙ ap pieceAnswer (sym (parted (c .before .before .before .before)))
 
 slice-aggregate-named : tie.Need-slice-aggregate-named
-slice-aggregate-named c = sym (length-take-le _ _ (c .before .before .before .before .before .before .before .find .ensures .inside))
+slice-aggregate-named c = sym (length-take-le _ _ (Found (else1 (c .before .before)) .find .ensures .inside))
 
 named-requires-2 : tie.Need-named-requires-2
 named-requires-2 c κs = search needs
@@ -76,13 +81,13 @@ enum-told-2 c = search needs
 returns-3 : tie.Need-returns-3
 returns-3 c =
     typed-bad _ _ (sym (c .before .before .named2 .ensures) ∙ c .enum-told2 .given .1)
-    ∙ ap pieceAnswer (sym (parted (c .before .before .before .before .before .before .before .before .before)))
+    ∙ ap pieceAnswer (sym (parted (else1 (c .before .before .before .before .before))))
 
 returns-4 : tie.Need-returns-4
 returns-4 c =
     let at-number = c .before .before .before .before .before .before in
     typed-some _ _ (sym (at-number .before .before .read-number .ensures) ∙ at-number .type-id .given .1) (sym (c .before .before .before .named2 .ensures) ∙ c .before .kind .given .1)
-    ∙ ap pieceAnswer (sym (parted (at-number .before .before .before .before)))
+    ∙ ap pieceAnswer (sym (parted (else1 at-number)))
 
 pub piece-of-spec : {M : Type 1} → statement M
 piece-of-spec =

@@ -12,14 +12,22 @@ use borrow.Author.Needs.{needs}
 use Rattle.template_table.proofs.check_table.Statement.{statement}
 use Rattle.template_table.proofs.check_table.Tie as tie
 
+-- ---- The places that others look back to
+
+abbrev the-start : tie.Else4 → tie.Start
+the-start c = c .before .before .before .before .before .before .before .before
+
+abbrev else1 : tie.Else4 → tie.Else1
+else1 c = c .before .before .before .before
+
 -- what the calls have told
 fit : (c : tie.Else4)
-    → let start = c .before .before .before .before .before .before .before .before in
+    → let start = the-start c in
     allOk (entryOk (length (now (start .args .members)) / memberWidth) (length (now (start .args .added)))) (entriesIn (now (start .args .entries))) ≡ true
 fit c = sym (c .before .entries-fit .ensures) ∙ not-false _ (c .if4 .left)
 
 fit-2 : (c : tie.Else5)
-    → let start = c .before .before .before .before .before .before .before .before .before .before in
+    → let start = the-start (c .before .before) in
     allOk (memberOk (length (now (start .args .added)))) (membersIn (now (start .args .members))) ≡ true
 fit-2 c = sym (c .before .members-fit .ensures) ∙ not-false _ (c .if5 .left)
 
@@ -44,7 +52,7 @@ members-fit-requires c κs = search needs
 returns-5 : tie.Need-returns-5
 returns-5 c =
     let e = c .before .before in
-    refuse-member _ _ _ (e .before .before .before .before .if1 .left) (e .before .before .before .if2 .left) (e .before .before .if3 .left) (fit e) (sym (c .before .members-fit .ensures) ∙ not-true _ (c .if5 .taken))
+    refuse-member _ _ _ (else1 e .if1 .left) (e .before .before .before .if2 .left) (e .before .before .if3 .left) (fit e) (sym (c .before .members-fit .ensures) ∙ not-true _ (c .if5 .taken))
 
 numbers-agree-requires : tie.Need-numbers-agree-requires
 numbers-agree-requires c κs = search needs
@@ -53,13 +61,13 @@ returns-6 : tie.Need-returns-6
 returns-6 c =
     let m = c .before .before in
     let e = m .before .before in
-    refuse-differing _ _ _ (e .before .before .before .before .if1 .left) (e .before .before .before .if2 .left) (e .before .before .if3 .left) (fit e) (fit-2 m) (sym (c .before .numbers-agree .ensures) ∙ not-true _ (c .if6 .taken))
+    refuse-differing _ _ _ (else1 e .if1 .left) (e .before .before .before .if2 .left) (e .before .before .if3 .left) (fit e) (fit-2 m) (sym (c .before .numbers-agree .ensures) ∙ not-true _ (c .if6 .taken))
 
 returns-7 : tie.Need-returns-7
 returns-7 c =
     let m = c .before .before in
     let e = m .before .before in
-    accept _ _ _ (e .before .before .before .before .if1 .left) (e .before .before .before .if2 .left) (e .before .before .if3 .left) (fit e) (fit-2 m) (sym (c .before .numbers-agree .ensures) ∙ not-false _ (c .if6 .left))
+    accept _ _ _ (else1 e .if1 .left) (e .before .before .before .if2 .left) (e .before .before .if3 .left) (fit e) (fit-2 m) (sym (c .before .numbers-agree .ensures) ∙ not-false _ (c .if6 .left))
 
 pub check-table-spec : {M : Type 1} → statement M
 check-table-spec =

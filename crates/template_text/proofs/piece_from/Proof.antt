@@ -10,9 +10,14 @@ use Rattle.template_text.proofs.Coming.{at-end, at-bad, at-piece}
 use Rattle.template_text.proofs.piece_from.Statement.{statement}
 use Rattle.template_text.proofs.piece_from.Tie as tie
 
+-- ---- The places that others look back to
+
+abbrev start : tie.After-answer → tie.Start
+start c = c .before .before .before .before
+
 -- the part that was found
 found : (c : tie.After-answer)
-    → partStepAt (now (c .before .before .before .before .args .text)) (c .before .before .before .before .args .at) .answer ≡ Part (c .answer .given .0 .0) (c .answer .given .0 .1 .0)
+    → partStepAt (now (start c .args .text)) (start c .args .at) .answer ≡ Part (c .answer .given .0 .0) (c .answer .given .0 .1 .0)
 found c = sym (ap (λ (s : PartStep). s .answer) (c .before .before .part-from .ensures)) ∙ c .answer .given .1
 
 part-from-requires : tie.Need-part-from-requires

@@ -19,6 +19,11 @@ Inv-loop text pieces₀ at₀ count₀ pieces at count = Gathering text pieces�
 abbrev μ-loop : tie.MeasureT-loop
 μ-loop text pieces₀ at₀ count₀ pieces at count = length text + 1 - at
 
+-- ---- The places that others look back to
+
+abbrev after-step : tie.After-slice-known2 Inv-loop μ-loop → tie.After-step Inv-loop μ-loop
+after-step c = c .before .before .before .before .before .before
+
 -- the piece that comes
 abbrev loop : tie.After-step Inv-loop μ-loop → tie.At-loop Inv-loop μ-loop
 loop c = c .before .before .before
@@ -79,16 +84,16 @@ copy-requires c κs =
     (omega arith, gather-room (loop step .loop .inv) (comes step) (loop step .before .before .before .pre))
 
 add-count : tie.Need-add-count Inv-loop μ-loop
-add-count c = omega (arith, few (c .before .before .before .before .before .before))
+add-count c = omega (arith, few (after-step c))
 
 loop-less : tie.Need-loop-less Inv-loop μ-loop
 loop-less c =
-    let step = c .before .before .before .before .before .before in
+    let step = after-step c in
     gather-passing (loop step .loop .inv) (comes step) .less
 
 loop-again : tie.Need-loop-again Inv-loop μ-loop
 loop-again c =
-    let step = c .before .before .before .before .before .before in
+    let step = after-step c in
     gather-on (loop step .loop .inv) (comes step) (c .before .before .copy .ensures)
 
 pub read-pieces-spec : {M : Type 1} → statement M

@@ -9,6 +9,14 @@ use Rattle.template_entries.specs.Table.{readTable}
 use Rattle.template_table.specs.Check.{tableAnswer}
 use Rattle.template_table.specs.declared.TableAnswer.the-variants.{Sound}
 
+-- ---- The places that others look back to
+
+abbrev after-enum-told : tie.After-text-used → tie.After-enum-told
+after-enum-told c = c .before .before .before .before
+
+abbrev after-enum-told-from-text-used2 : tie.After-text-used2 → tie.After-enum-told
+after-enum-told-from-text-used2 c = c .before .before .before .before
+
 -- the table has been checked; before it the function starts
 abbrev start : tie.After-enum-told → tie.Start
 start c = c .before .before .before .before .before .before .before
@@ -39,7 +47,7 @@ text-used-requires : tie.Need-text-used-requires
 text-used-requires c κs = search needs
 
 count-pieces-requires : tie.Need-count-pieces-requires
-count-pieces-requires c κs = sound-inside _ _ _ (is-sound (c .before .before .before .before))
+count-pieces-requires c κs = sound-inside _ _ _ (is-sound (after-enum-told c))
 
 enum-told-3 : tie.Need-enum-told-3
 enum-told-3 c = search needs
@@ -51,16 +59,16 @@ text-used-requires-2 : tie.Need-text-used-requires-2
 text-used-requires-2 c κs = search needs
 
 count-pieces-requires-2 : tie.Need-count-pieces-requires-2
-count-pieces-requires-2 c κs = sound-inside _ _ _ (is-sound (c .before .before .before .before))
+count-pieces-requires-2 c κs = sound-inside _ _ _ (is-sound (after-enum-told-from-text-used2 c))
 
 returns-2 : tie.Need-returns-2
 returns-2 c =
-    let told = c .before .before .before .before .before in
+    let told = after-enum-told (c .before) in
     count-used _ _ _ (start told .args .set) (now (start told .args .text)) (is-sound told) (c .before .text-used .ensures) (c .before .before .before .enum-told2 .given .1) (c .count-pieces .ensures)
 
 returns-3 : tie.Need-returns-3
 returns-3 c =
-    let told = c .before .before .before .before .before in
+    let told = after-enum-told-from-text-used2 (c .before) in
     count-used _ _ _ (start told .args .set) (now (start told .args .text)) (is-sound told) (c .before .text-used2 .ensures) (c .before .before .before .enum-told3 .given .1) (c .count-pieces2 .ensures)
 
 pub count-added-spec : {M : Type 1} → statement M

@@ -17,6 +17,11 @@ use borrow.Author.Needs.{needs}
 use Rattle.template_validate.proofs.validate.Statement.{statement}
 use Rattle.template_validate.proofs.validate.Tie as tie
 
+-- ---- The places that others look back to
+
+abbrev after-text-used : tie.After-enum-told2 → tie.After-text-used
+after-text-used c = c .before .before .before .before .before
+
 -- ---- Places
 
 -- the table has been checked; before it the function starts
@@ -41,7 +46,7 @@ is-sound c = sym (c .before .before .check-table .ensures) ∙ c .enum-told .giv
 -- the single template is read
 in-single : (c : tie.After-enum-told2)
     → sequencesAnswer (readTemplate (textUsed (start (table-of c) .args .single-set) (now (start (table-of c) .args .single)) Single)) ≡ Named (c .enum-told2 .given .0 .0) (c .enum-told2 .given .0 .1 .0)
-in-single c = ap (λ (t : List ℕ). sequencesAnswer (readTemplate t)) (sym (c .before .before .before .before .before .text-used .ensures)) ∙ sym (c .before .before .sequences-in .ensures) ∙ c .enum-told2 .given .1
+in-single c = ap (λ (t : List ℕ). sequencesAnswer (readTemplate t)) (sym (after-text-used c .text-used .ensures)) ∙ sym (c .before .before .sequences-in .ensures) ∙ c .enum-told2 .given .1
 
 -- and the pair's
 in-pair : (c : tie.After-in-pair2)
@@ -118,7 +123,7 @@ returns-6 c =
     let pair = c .before .before .before .before in
     let single = single-of pair in
     decide-known _ _ _ _ _ (is-sound (table-of single)) (in-single single) (in-pair pair ∙ ap₂ Named (not-false _ (c .before .before .if1 .left)) (not-false _ (c .before .if2 .left)))
-    (known-used _ _ (single .before .before .before .before .before .text-used .ensures) (single .before .before .before .text-used2 .ensures) (c .both-known .ensures))
+    (known-used _ _ (after-text-used single .text-used .ensures) (single .before .before .before .text-used2 .ensures) (c .both-known .ensures))
 
 pub validate-spec : {M : Type 1} → statement M
 validate-spec =

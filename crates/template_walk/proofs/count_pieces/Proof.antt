@@ -20,6 +20,11 @@ Inv-loop text entries added sum₀ at₀ sum at = Counting text entries added at
 abbrev μ-loop : tie.MeasureT-loop
 μ-loop text entries added sum₀ at₀ sum at = length text + 1 - at
 
+-- ---- The places that others look back to
+
+abbrev after-step : tie.After-ids-of Inv-loop μ-loop → tie.After-step Inv-loop μ-loop
+after-step c = c .before .before .before .before
+
 -- where the function starts, and the text is short enough
 abbrev start : tie.At-loop Inv-loop μ-loop → tie.Start Inv-loop μ-loop
 start c = c .before .before .before .before .before .before
@@ -86,17 +91,17 @@ ids-of-requires c κs = start (loop (c .before .before .before)) .pre
 
 add-sum : tie.Need-add-sum Inv-loop μ-loop
 add-sum c =
-    let step = c .before .before .before .before in
+    let step = after-step c in
     omega (arith, count-few (loop step .loop .inv) (fits (loop step)) (comes step), loop step .loop .inv .small, c .ids-of .ensures .small)
 
 loop-less : tie.Need-loop-less Inv-loop μ-loop
 loop-less c =
-    let step = c .before .before .before .before in
+    let step = after-step c in
     count-passing (loop step .loop .inv) (fits (loop step)) (comes step) .less
 
 loop-again : tie.Need-loop-again Inv-loop μ-loop
 loop-again c =
-    let step = c .before .before .before .before in
+    let step = after-step c in
     count-special (loop step .loop .inv) (fits (loop step)) (comes step) (c .before .before .if2 .taken) (c .ids-of .ensures)
 
 loop-less-2 : tie.Need-loop-less-2 Inv-loop μ-loop

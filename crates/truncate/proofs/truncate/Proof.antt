@@ -14,8 +14,16 @@ use Rattle.truncate.proofs.Deciding.{one-stands, outcome-malformed, out
 use Rattle.truncate.proofs.truncate.Statement.{statement}
 use Rattle.truncate.proofs.truncate.Tie as tie
 
+-- ---- The places that others look back to
+
+abbrev start : tie.Else1 → tie.Start
+start c = c .before .before .before .before .before .before
+
+abbrev after-cut-one : tie.After-slice-known4 → tie.After-cut-one
+after-cut-one c = c .before .before .before .before
+
 -- past the first test there is one encoding
-the-one : (c : tie.Else1) → (E : Encoding) × One (now (c .before .before .before .before .before .before .args .nodes)) (now (c .before .before .before .before .before .before .args .rows)) E
+the-one : (c : tie.Else1) → (E : Encoding) × One (now (start c .args .nodes)) (now (start c .args .rows)) E
 the-one c = one-there _ _ (sym (c .before .is-one .ensures) ∙ not-false _ (c .if1 .left))
 
 -- what it holds is measured
@@ -35,16 +43,16 @@ cut-one-requires : tie.Need-cut-one-requires
 cut-one-requires c κs = let m = c .before .before in let o = the-one (m .before) in record { E = o .0; one = o .1; measured = measured m }
 
 same-length : tie.Need-same-length
-same-length c = c .before .before .before .before .cut-one .kept .1 .1 .1 .1 .1 .1 .0
+same-length c = after-cut-one c .cut-one .kept .1 .1 .1 .1 .1 .1 .0
 
 same-length-2 : tie.Need-same-length-2
-same-length-2 c = c .before .before .before .before .cut-one .kept .1 .1 .1 .1 .1 .1 .1 .0
+same-length-2 c = after-cut-one c .cut-one .kept .1 .1 .1 .1 .1 .1 .1 .0
 
 returns-2 : tie.Need-returns-2
 returns-2 c =
     let m = c .before .before .before .before .before .before .before in
     let o = the-one (m .before) in
-    rw (outcome-one (o .1) _ _ _ _ _) (c .before .before .before .before .cut-one .ensures (o .0) (o .1) (measured m))
+    rw (outcome-one (o .1) _ _ _ _ _) (after-cut-one c .cut-one .ensures (o .0) (o .1) (measured m))
 
 pub truncate-spec : {M : Type 1} → statement M
 truncate-spec =

@@ -11,6 +11,11 @@ use Rattle.truncate_size.proofs.Counted.{Counted, counted}
 use Rattle.truncate_size.proofs.size_after.Statement.{statement}
 use Rattle.truncate_size.proofs.size_after.Tie as tie
 
+-- ---- The places that others look back to
+
+abbrev after-decision : tie.After-wide4 → tie.After-decision
+after-decision c = c .before .before .before .before .before
+
 -- what is decided where there are windows
 windows : (c : tie.After-decision) → Counted (c .before .before .before .args .n) (c .before .before .before .args .stride) (c .decision .given .0 .0)
 windows c =
@@ -55,10 +60,10 @@ wide-requires-4 : tie.Need-wide-requires-4
 wide-requires-4 c κs = search needs
 
 mul-t15 : tie.Need-mul-t15
-mul-t15 c = rw (c .before .wide3 .ensures, c .wide4 .ensures) (omega (arith, windows (c .before .before .before .before .before) .few))
+mul-t15 c = rw (c .before .wide3 .ensures, c .wide4 .ensures) (omega (arith, windows (after-decision c) .few))
 
 add-t16 : tie.Need-add-t16
-add-t16 c = rw (c .before .wide3 .ensures, c .wide4 .ensures) (omega (arith, c .before .before .wide2 .ensures, c .before .before .before .before .before .before .before .before .pre .few-own, windows (c .before .before .before .before .before) .few))
+add-t16 c = rw (c .before .wide3 .ensures, c .wide4 .ensures) (omega (arith, c .before .before .wide2 .ensures, c .before .before .before .before .before .before .before .before .pre .few-own, windows (after-decision c) .few))
 
 returns : tie.Need-returns
 returns c =
@@ -77,7 +82,7 @@ returns-3 c =
 
 returns-4 : tie.Need-returns-4
 returns-4 c =
-    let k = c .before .before .before .before .before in
+    let k = after-decision c in
     let v = k .before .before .before .args in
     ap (λ (m : ℕ). extent m (c .before .before .wide2 .result + c .before .wide3 .result * c .wide4 .result) 2) (c .before .before .before .wide .ensures)
     ∙ (λ j. extent (k .decision .given .0 .0) (c .before .before .wide2 .ensures j + c .before .wide3 .ensures j * c .wide4 .ensures j) 2)
