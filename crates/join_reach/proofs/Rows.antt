@@ -4,7 +4,6 @@ use mathlib.Core.Path.{_≡_, refl, sym, ap, _∙_}
 use Prim.Native.Nat.{ℕ, suc, _+_, _*_, _-_, _≤_, _<_, max}
 use native.Mathlib.Omega.{arith}
 use mathlib.Core.List.{List, [], _∷_, flatMap}
-use lib.Bits.{bitOr, or-add-and, and-le-l, and-le-r}
 use lib.ListN.{length, getD, drop, length-append, length-drop}
 use lib.Seq.{drop-drop, getD-drop}
 use Rattle.record.specs.Tree.{Row}
@@ -21,15 +20,15 @@ rows-long {rows} {j} {count} {R} h k = omega (arith, h .counts, ap length (h .th
 -- ---- The first of them
 
 module _ {rows : List ℕ} {j : ℕ} {r : Row} {R : List Row} (h : RowsAt rows j (r ∷ R)) where
-  row-start : getD rows (j + 7) 0 ≡ r .offset-start
+  pub row-start : getD rows (j + 7) 0 ≡ r .offset-start
   unfolding flatMap rowNumbers
   row-start = sym (getD-drop j rows 7 0) ∙ ap (λ (l : List ℕ). getD l 7 0) (h .is)
 
-  row-end : getD rows (j + 8) 0 ≡ r .offset-end
+  pub row-end : getD rows (j + 8) 0 ≡ r .offset-end
   unfolding flatMap rowNumbers
   row-end = sym (getD-drop j rows 8 0) ∙ ap (λ (l : List ℕ). getD l 8 0) (h .is)
 
-  rows-after : RowsAt rows (j + rowWidth) R
+  pub rows-after : RowsAt rows (j + rowWidth) R
   unfolding flatMap rowNumbers
   rows-after = record { rest = h .rest; is = sym (drop-drop rowWidth j rows) ∙ ap (drop rowWidth) (h .is) }
 
@@ -78,44 +77,4 @@ scanned-end {rows} {R} {left} {row} {largest} s z = go (s .to-come) (s .from) (s
   where
     go : (l : List Row) → RowsFrom rows row left l → largestOffset R ≡ max largest (largestOffset l) → largest ≡ largestOffset R
     go [] h e = omega arith
-    go (r ∷ l) h e = absurd (omega (arith, h .counts))
-
--- ---- A bound of them all
-
--- of the rows R, `left` are to come, from place `row` on; no offset of the others passes both `starts` and `ends`
-pub record Bounded (rows : List ℕ) (R : List Row) (left row starts ends : ℕ) : Type 0 where
-  pub to-come : List Row
-  pub from : RowsFrom rows row left to-come
-  pub all : largestOffset R ≤ max (max starts ends) (largestOffset to-come)
-
-pub bounded-start : {rows : List ℕ} {j count : ℕ} {R : List Row} → RowsFrom rows j count R → Bounded rows R count j 0 0
-bounded-start {rows} {j} {count} {R} h = record { to-come = R; from = h; all = omega arith }
-
-left-within : (a b : ℕ) → a ≤ bitOr a b
-left-within a b = omega (arith, or-add-and a b, and-le-r a b)
-
-right-within : (a b : ℕ) → b ≤ bitOr a b
-right-within a b = omega (arith, or-add-and a b, and-le-l a b)
-
-pub bounded-turn : {rows : List ℕ} {R : List Row} {left row starts ends : ℕ} → Bounded rows R left row starts ends → 0 < left → Bounded rows R (left - 1) (row + rowWidth) (bitOr starts (getD rows (row + 7) 0)) (bitOr ends (getD rows (row + 8) 0))
-unfolding largestOffset
-bounded-turn {rows} {R} {left} {row} {starts} {ends} s k = go (s .to-come) (s .from) (s .all)
-  where
-    go : (l : List Row) → RowsFrom rows row left l → largestOffset R ≤ max (max starts ends) (largestOffset l) → Bounded rows R (left - 1) (row + rowWidth) (bitOr starts (getD rows (row + 7) 0)) (bitOr ends (getD rows (row + 8) 0))
-    go [] h e = absurd (omega (arith, h .counts))
-    go (r ∷ l) h e =
-        let start = getD rows (row + 7) 0 in
-        let end = getD rows (row + 8) 0 in
-        record {
-          to-come = l;
-          from = record { there = rows-after (h .there); counts = omega (arith, h .counts) };
-          all = omega (arith, row-start (h .there), row-end (h .there), left-within starts start, right-within starts start, left-within ends end, right-within ends end);
-        }
-
-pub bounded-end : {rows : List ℕ} {R : List Row} {left row starts ends : ℕ} → Bounded rows R left row starts ends → left ≡ 0 → largestOffset R ≤ bitOr starts ends
-unfolding largestOffset
-bounded-end {rows} {R} {left} {row} {starts} {ends} s z = go (s .to-come) (s .from) (s .all)
-  where
-    go : (l : List Row) → RowsFrom rows row left l → largestOffset R ≤ max (max starts ends) (largestOffset l) → largestOffset R ≤ bitOr starts ends
-    go [] h e = omega (arith, left-within starts ends, right-within starts ends)
     go (r ∷ l) h e = absurd (omega (arith, h .counts))
