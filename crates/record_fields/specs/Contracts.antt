@@ -2,7 +2,7 @@
 -- Assumes nothing: these are definitions.
 use mathlib.Core.Path.{_≡_}
 use mathlib.Core.Logic.{_⊎_}
-use Prim.Native.Nat.{ℕ, _+_, _-_, _*_, _≤_, _<_}
+use Prim.Native.Nat.{ℕ, _+_, _-_, _*_, _%_, _≤_, _<_}
 use mathlib.Core.List.{List}
 use lib.ListN.{length, getD}
 use Rattle.record.specs.Tree.{sequences}
@@ -29,10 +29,19 @@ NodesFine xs = (i : ℕ) → i * nodeWidth + nodeWidth ≤ length xs → RangesO
 abbrev pub RowOk : ℕ → ℕ → ℕ → Type 0
 RowOk pool mark word = (pool ≤ 1) × (((mark ≡ 0) × (word ≡ 0)) ⊎ (mark ≡ 1))
 
--- u is the word where the mark is not 1, else 0
-pub record Unmarked (mark word u : ℕ) : Type 0 where
-  pub marked : mark ≡ 1 → u ≡ 0
-  pub other : (mark ≡ 1 → ⊥) → u ≡ word
+-- how many numbers a number of the record can be
+abbrev pub numbers : ℕ
+numbers = 4294967296
+
+-- the mark at `at` with the word after it above
+abbrev pub markedWord : List ℕ → ℕ → ℕ
+markedWord rows at = getD rows at 0 + getD rows (at + 1) 0 * numbers
+
+-- r is at most 1 exactly if x is odd or 0
+pub record LowestBit (x r : ℕ) : Type 0 where
+  pub none : x ≡ 0 → r ≤ 1
+  pub odd : x % 2 ≡ 1 → r ≤ 1
+  pub even : x % 2 ≡ 0 → r ≤ 1 → x ≡ 0
 
 abbrev pub RowAt : List ℕ → ℕ → Type 0
 RowAt rs j = RowOk (getD rs (j + 2) 0) (getD rs (j + 5) 0) (getD rs (j + 6) 0)
