@@ -1,2 +1,1 @@
-pub mod Windowless
-pub mod Deciding
+pub mod Writing

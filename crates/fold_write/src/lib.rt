@@ -1,9 +1,10 @@
 // The fold of a batch, written: step by step into the output, a run of encodings without windows in one step where the output has
 // windows, and what refusal 6 leaves (document 01, `merge`).
 ghost use Rattle.fold_write.specs.Contracts.{AskFold, WritesFold, ZeroedAll};
+ghost use Rattle.record.specs.Working.{Zeroed};
 use record::Spot;
 
-// The fold of the batch, into the output.
+// The fold of the batch, into the output; the working store is zeroed after it.
 pub fn write_fold(
     nodes: &[u32],
     rows: &[u32],
@@ -17,6 +18,8 @@ pub fn write_fold(
         (now «working_rows») ⌝ }
     ensures { λ _. ⌜ WritesFold (now (nodes .entry)) (now (rows .entry)) growing (now («out_nodes» .entry))
         (now («out_rows» .entry)) (now («out_nodes» .exit)) (now («out_rows» .exit)) ⌝ }
+    ensures { λ _. ⌜ Zeroed (now («working_nodes» .entry)) (now («working_rows» .entry)) (now («working_nodes» .exit))
+        (now («working_rows» .exit)) ⌝ }
 {
     fold_append::start(out_nodes);
     let mut at = Spot { node: 0, row: 0 };
@@ -32,6 +35,7 @@ pub fn write_fold(
             working_rows,
         );
     }
+    join_size::zero_both(working_nodes, working_rows);
 }
 
 // What an offset that is too large leaves: output and working store all zeros.

@@ -7,10 +7,10 @@ use Rattle.record.proofs.Read.{unique}
 use Rattle.join_trees.specs.Join.{fold}
 use Rattle.fold_levels.proofs.Folded.{stores-holds}
 use Rattle.join_size.proofs.Sizes.{measured-profiled}
-use Rattle.fold.proofs.Windowless.{fold-plain-sizes}
+use Rattle.fold_check.proofs.Windowless.{fold-plain-sizes}
 use Rattle.record.proofs.Counts.{tops-few}
-use Rattle.fold.proofs.fold_size.Statement.{statement}
-use Rattle.fold.proofs.fold_size.Tie as tie
+use Rattle.fold_check.proofs.fold_size.Statement.{statement}
+use Rattle.fold_check.proofs.fold_size.Tie as tie
 
 mul-if1 : tie.Need-mul-if1
 mul-if1 c = let a = c .before .before .pre in omega (arith, tops-few (a .f), a .counts, a .stores .well .fits .few-nodes)

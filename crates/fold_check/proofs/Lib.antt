@@ -1,0 +1,2 @@
+pub mod Windowless
+pub mod Deciding
