@@ -1,6 +1,7 @@
 // Replays the stored cases of the operations that answer in a few numbers: each is called through the C interface, and what it
 // gives is compared with the end of its case (`replay_program` says what a case is). The line above each function is its whole
-// case. To add one: its number, such a function, an arm of `replay`, and its cases, which the comparison with the Rust makes.
+// case; those of a batch and its sequences stand in `replay_sequence_calls`. To add one: its number, such a function, an arm of
+// `replay`, and its cases, which the comparison with the Rust makes.
 ghost use lib.ListN.{length};
 ghost use Rattle.replay_program.specs.Contracts.{Inside};
 use input::PIECE;
@@ -8,6 +9,7 @@ use replay_answers::Outcome;
 use replay_program::Case;
 use replay_program::LINE;
 use replay_program::NUMBERS;
+use replay_sequence_calls::BEFORE;
 
 // Operation numbers, the first number of each case.
 const CHECK_BATCH: u32 = 1;
@@ -29,11 +31,6 @@ const TOKEN_TO_CHARS: u32 = 9;
 const TOKEN_TO_WORD: u32 = 10;
 
 const CHAR_TO_WORD: u32 = 11;
-
-// What stands in each lent number before a call.
-const BEFORE: u32 = 7;
-
-const BEFORE_COUNT: usize = 7;
 
 fn main() {
     let mut piece = [0u8; PIECE];
@@ -89,10 +86,10 @@ fn replay_parts(case: Case, numbers: &[u32]) -> Outcome
 // `rest` is what follows the nodes and the rows in the case.
 fn replay(operation: u32, nodes: &[u32], rows: &[u32], rest: &[u32]) -> Outcome {
     match operation {
-        CHECK_BATCH => check_batch(nodes, rows, rest),
-        SEQUENCE_RANGE => sequence_range(nodes, rows, rest),
-        N_SEQUENCES => n_sequences(nodes, rows, rest),
-        TOKEN_TO_SEQUENCE => token_to_sequence(nodes, rows, rest),
+        CHECK_BATCH => replay_sequence_calls::check_batch(nodes, rows, rest),
+        SEQUENCE_RANGE => replay_sequence_calls::sequence_range(nodes, rows, rest),
+        N_SEQUENCES => replay_sequence_calls::n_sequences(nodes, rows, rest),
+        TOKEN_TO_SEQUENCE => replay_sequence_calls::token_to_sequence(nodes, rows, rest),
         WORD_TO_TOKENS => word_to_tokens(nodes, rows, rest),
         WORD_TO_CHARS => word_to_chars(nodes, rows, rest),
         CHAR_TO_TOKEN => char_to_token(nodes, rows, rest),
@@ -101,46 +98,6 @@ fn replay(operation: u32, nodes: &[u32], rows: &[u32], rest: &[u32]) -> Outcome 
         CHAR_TO_WORD => char_to_word(nodes, rows, rest),
         _ => Outcome::Bad,
     }
-}
-
-// `1 nodes rows refusal encodings`
-fn check_batch(nodes: &[u32], rows: &[u32], rest: &[u32]) -> Outcome {
-    let mut encodings = BEFORE_COUNT;
-    let refusal = c_make::noddrefyr_check_batch(nodes, rows, &mut encodings);
-    counted(refusal, encodings, rest)
-}
-
-fn counted(refusal: u32, count: usize, rest: &[u32]) -> Outcome {
-    if rest.len() != 2 {
-        return Outcome::Bad;
-    }
-    if rest[0] != refusal {
-        return Outcome::Differs;
-    }
-    replay_answers::compared(lists::wide(rest[1]) == count)
-}
-
-// `2 nodes rows sequence refusal start end`
-fn sequence_range(nodes: &[u32], rows: &[u32], rest: &[u32]) -> Outcome {
-    let sequence = replay_cases::number_at(rest, 0);
-    let mut answer = [BEFORE; 2];
-    let refusal = c_sequences::noddrefyr_sequence_range(nodes, rows, sequence, &mut answer);
-    replay_answers::answered_two(refusal, &answer, rest, 1)
-}
-
-// `3 nodes rows refusal count`
-fn n_sequences(nodes: &[u32], rows: &[u32], rest: &[u32]) -> Outcome {
-    let mut answer = [BEFORE; 1];
-    let refusal = c_sequences::noddrefyr_n_sequences(nodes, rows, &mut answer);
-    replay_answers::answered_one(refusal, &answer, rest, 0)
-}
-
-// `4 nodes rows token refusal found sequence`
-fn token_to_sequence(nodes: &[u32], rows: &[u32], rest: &[u32]) -> Outcome {
-    let token = replay_cases::number_at(rest, 0);
-    let mut answer = [BEFORE; 2];
-    let refusal = c_sequences::noddrefyr_token_to_sequence(nodes, rows, token, &mut answer);
-    replay_answers::answered_two(refusal, &answer, rest, 1)
 }
 
 // `6 nodes rows word sequence refusal found start end`

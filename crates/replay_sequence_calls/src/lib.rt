@@ -1,0 +1,49 @@
+// The calls that stored cases of a batch and of its sequences ask for, through the C interface, and whether each gave what is
+// stored, for the program `replay_lookups`. `rest` is what follows the nodes and the rows in a case.
+use replay_answers::Outcome;
+
+// What stands in each lent number before a call.
+pub const BEFORE: u32 = 7;
+
+const BEFORE_COUNT: usize = 7;
+
+// `1 nodes rows refusal encodings`
+pub fn check_batch(nodes: &[u32], rows: &[u32], rest: &[u32]) -> Outcome {
+    let mut encodings = BEFORE_COUNT;
+    let refusal = c_make::noddrefyr_check_batch(nodes, rows, &mut encodings);
+    counted(refusal, encodings, rest)
+}
+
+// Whether the rest of a case is a refusal and a count.
+fn counted(refusal: u32, count: usize, rest: &[u32]) -> Outcome {
+    if rest.len() != 2 {
+        return Outcome::Bad;
+    }
+    if rest[0] != refusal {
+        return Outcome::Differs;
+    }
+    replay_answers::compared(lists::wide(rest[1]) == count)
+}
+
+// `2 nodes rows sequence refusal start end`
+pub fn sequence_range(nodes: &[u32], rows: &[u32], rest: &[u32]) -> Outcome {
+    let sequence = replay_cases::number_at(rest, 0);
+    let mut answer = [BEFORE; 2];
+    let refusal = c_sequences::noddrefyr_sequence_range(nodes, rows, sequence, &mut answer);
+    replay_answers::answered_two(refusal, &answer, rest, 1)
+}
+
+// `3 nodes rows refusal count`
+pub fn n_sequences(nodes: &[u32], rows: &[u32], rest: &[u32]) -> Outcome {
+    let mut answer = [BEFORE; 1];
+    let refusal = c_sequences::noddrefyr_n_sequences(nodes, rows, &mut answer);
+    replay_answers::answered_one(refusal, &answer, rest, 0)
+}
+
+// `4 nodes rows token refusal found sequence`
+pub fn token_to_sequence(nodes: &[u32], rows: &[u32], rest: &[u32]) -> Outcome {
+    let token = replay_cases::number_at(rest, 0);
+    let mut answer = [BEFORE; 2];
+    let refusal = c_sequences::noddrefyr_token_to_sequence(nodes, rows, token, &mut answer);
+    replay_answers::answered_two(refusal, &answer, rest, 1)
+}
