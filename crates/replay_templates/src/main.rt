@@ -1,6 +1,7 @@
 // Replays the stored cases of the operations on templates, each called through the C interface (`replay_program` says what a
-// case is). Texts and the added pool are lists of bytes, and the line above each function is its whole case. To add one: its
-// number, such a function, an arm of `replay`, and its cases, which the comparison with the Rust makes.
+// case is). Texts and the added pool are lists of bytes, and the line above each function is its whole case; the one that reads a
+// template stands in `replay_template_call`. To add one: its number, such a function, an arm of `replay`, and its cases, which
+// the comparison with the Rust makes.
 ghost use lib.ListN.{length};
 ghost use Rattle.replay_program.specs.Contracts.{Inside};
 use input::PIECE;
@@ -8,7 +9,7 @@ use replay_answers::Outcome;
 use replay_program::Case;
 use replay_program::LINE;
 use replay_program::NUMBERS;
-use template_text::Template;
+use replay_template_call::TEXT;
 
 // Operation numbers, the first number of each case.
 const READ_TEMPLATE: u32 = 23;
@@ -17,16 +18,10 @@ const VALIDATE: u32 = 24;
 
 const COUNT_ADDED: u32 = 25;
 
-// The most bytes of a text, some more than a template may have, and of the added pool.
-const TEXT: usize = 4100;
-
+// The most bytes of the added pool.
 const POOL: usize = 256;
 
-// What stands in each lent number before a call.
-const BEFORE: u32 = 7;
-
-const BEFORE_COUNT: usize = 7;
-
+// What stands in the lent sum before a call.
 const BEFORE_SUM: u64 = 7;
 
 // The largest number of a case.
@@ -86,54 +81,11 @@ fn replay_parts(case: Case, numbers: &[u32]) -> Outcome
 // `first` and `second` are the lists that the case begins with, `rest` what follows them.
 fn replay(operation: u32, first: &[u32], second: &[u32], rest: &[u32]) -> Outcome {
     match operation {
-        READ_TEMPLATE => read_template(first, second, rest),
+        READ_TEMPLATE => replay_template_call::read_template(first, second, rest),
         VALIDATE => validate(first, second, rest),
         COUNT_ADDED => count_added(first, second, rest),
         _ => Outcome::Bad,
     }
-}
-
-// `23 text nothing refusal count pieces`
-fn read_template(text: &[u32], nothing: &[u32], rest: &[u32]) -> Outcome {
-    if nothing.len() != 0 {
-        return Outcome::Bad;
-    }
-    let mut bytes = [0u8; TEXT];
-    text_read(text, rest, &mut bytes)
-}
-
-fn text_read(text: &[u32], rest: &[u32], bytes: &mut [u8]) -> Outcome {
-    let held = replay_bytes::text_of(text, bytes);
-    if !held.good {
-        return Outcome::Bad;
-    }
-    let count = held.count;
-    let mut pieces = [BEFORE; Template::PIECES];
-    let mut number = BEFORE_COUNT;
-    let refusal = c_templates::noddrefyr_read_template(&bytes[..count], &mut pieces, &mut number);
-    pieces_stored(refusal, number, &pieces, rest)
-}
-
-// Whether the rest of a case is the refusal, the number of pieces and the list of them.
-fn pieces_stored(
-    refusal: u32,
-    count: usize,
-    pieces: &[u32; Template::PIECES],
-    rest: &[u32],
-) -> Outcome {
-    let stored = replay_cases::last_list(rest, 2);
-    let start = stored.start;
-    let end = stored.end;
-    if end - start != Template::PIECES {
-        return Outcome::Bad;
-    }
-    if replay_cases::number_at(rest, 0) != refusal {
-        return Outcome::Differs;
-    }
-    if lists::wide(replay_cases::number_at(rest, 1)) != count {
-        return Outcome::Differs;
-    }
-    replay_answers::compared(replay_answers::equal(pieces, &rest[start..end]))
 }
 
 // `24 entries members single-set pair-set single pair added refusal`
