@@ -34,8 +34,9 @@ use Rattle.process_plan.specs.Contracts.{Plans}
 use Rattle.process_plan.specs.declared.PlanAnswer.{PlanAnswer}
 use Rattle.process_plan.specs.declared.PlanAnswer.the-variants.{Steps, Refused as Unplanned}
 use Rattle.process_check.specs.Process.{whichFor, textFor, applyInto, withTable, processRead}
-use Rattle.process_check.specs.Contracts.{RefusedBy, TakenBy, usability, Usable}
-use Rattle.process_check.proofs.Inputs.{hasSecond, lacks-told}
+use Rattle.process_template.specs.Contracts.{usability}
+use Rattle.process_check.specs.Contracts.{RefusedBy, TakenBy, Usable}
+use Rattle.process_template.proofs.Inputs.{hasSecond, lacks-told}
 
 -- ---- No refusal but 6 changes a buffer, and a template is not refused with 6
 

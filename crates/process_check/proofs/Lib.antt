@@ -1,3 +1,2 @@
 pub mod Checking
 pub mod Deciding
-pub mod Inputs

@@ -1,32 +1,25 @@
 -- What the functions ask and give that decide whether a template can be applied, and by which steps.
 -- Assumes nothing: these are definitions.
 use mathlib.Core.Path.{_≡_}
-use mathlib.Core.Bool.{Bool, true, false, not, _&&_, cond}
+use mathlib.Core.Bool.{Bool, true, false}
 use mathlib.Core.Option.{Option}
 use mathlib.Core.List.{List, map}
 use Prim.Native.Nat.{ℕ}
 use lib.Dec.{eqb}
 use Rattle.record.specs.Tree.{Encoding}
 use Rattle.record.specs.Read.{allOk}
-use Rattle.record.specs.Standing.{OneOrTwo}
 use Rattle.record.specs.Refusals.{numberOf}
 use Rattle.record.specs.Outcome.{Outcome, refused as refusedOutcome}
 use Rattle.record.specs.declared.Refusal.{Refusal}
-use Rattle.record.specs.declared.Refusal.the-variants.{BWithoutSecond}
 use Rattle.record.specs.declared.Spot.{Spot}
 use Rattle.template_pieces.specs.Piece.{Piece}
-use Rattle.template_text.specs.Template.{TemplateReading, unread, reads, readTemplate}
-use Rattle.template_entries.specs.Table.{Special, sound, readTable}
-use Rattle.template_walk.specs.declared.SequencesAnswer.{SequencesAnswer}
-use Rattle.template_walk.specs.declared.SequencesAnswer.the-variants.{Refused as Unnamed, Named}
-use Rattle.template_known.specs.declared.Validity.{Validity}
-use Rattle.template_known.specs.declared.Validity.the-variants.{Valid, Refused}
-use Rattle.template_walk.specs.Sequences.{isB, someOk}
-use Rattle.template_known.specs.Known.{known, knownAnswer}
+use Rattle.template_text.specs.Template.{reads, readTemplate}
+use Rattle.template_entries.specs.Table.{Special}
+use Rattle.template_known.specs.Known.{known}
 use Rattle.process_steps.specs.declared.Step.{Step}
 use Rattle.process_steps.specs.Applied.{lacksSecond, foldedInto}
 use Rattle.process_steps.specs.Steps.{stepEncoding}
-use Rattle.process_steps.specs.Contracts.{Inputs, StepsHere}
+use Rattle.process_steps.specs.Contracts.{StepsHere}
 use Rattle.process_check.specs.declared.Decision.{Decision}
 use Rattle.process_check.specs.declared.Decision.the-variants.{Refused as RefusedWith, Take}
 
@@ -45,35 +38,11 @@ pub record TakenBy (outcome : List ℕ → List ℕ → List ℕ → List ℕ �
   pub steps-here : StepsHere nodes rows s entries members numbers count E second steps
   pub folded : (out out′ working working′ : List ℕ) → outcome out out′ working working′ ≡ foldedInto (map (stepEncoding entries members E second) steps) out out′ working working′
 
-abbrev pub DecidesProcess : (List ℕ → List ℕ → List ℕ → List ℕ → Outcome) → List ℕ → List ℕ → List ℕ → List ℕ → List ℕ → Decision → Type 0
-DecidesProcess outcome nodes rows entries members numbers (RefusedWith k) = RefusedBy outcome k
-DecidesProcess outcome nodes rows entries members numbers (Take s count) = TakenBy outcome nodes rows entries members numbers s count
+abbrev pub Decides : (List ℕ → List ℕ → List ℕ → List ℕ → Outcome) → List ℕ → List ℕ → List ℕ → List ℕ → List ℕ → Decision → Type 0
+Decides outcome nodes rows entries members numbers (RefusedWith k) = RefusedBy outcome k
+Decides outcome nodes rows entries members numbers (Take s count) = TakenBy outcome nodes rows entries members numbers s count
 
--- ---- Where the second encoding stands
-
-pub record OneOrTwoStored (nodes rows : List ℕ) : Type 0 where
-  pub E : Encoding
-  pub second : Option Encoding
-  pub stores : OneOrTwo nodes rows E second
-
-abbrev pub SecondAt : List ℕ → List ℕ → Spot → Type 0
-SecondAt nodes rows s = (E : Encoding) (second : Option Encoding) → OneOrTwo nodes rows E second → Inputs nodes rows s E second
-
--- ---- Whether the template can be used
-
-abbrev pub namesSecond : SequencesAnswer → Bool
-namesSecond (Unnamed k) = false
-namesSecond (Named a b) = b
-
--- "8, 7, 11, 10 only when special tokens are added": a table, whether there is a second encoding, whether special tokens are
--- added
-unfoldable pub usability : List Special → Bool → Bool → TemplateReading → Validity
-usability table second add (unread k) = Refused k
-usability table second add (reads pieces) = cond (not second && someOk isB pieces) (Refused BWithoutSecond) (cond add (knownAnswer (allOk (known table) pieces)) Valid)
-
--- which looks only at the entries of a table, so it speaks of every table with these entries
-pub record ChecksTemplate (text : List ℕ) (second add : Bool) (entries added : List ℕ) (answer : Validity) : Type 0 where
-  pub says : (members : List ℕ) (table : List Special) → readTable entries members added ≡ sound table → answer ≡ usability table second add (readTemplate text)
+-- ---- What passed
 
 -- The template can be read, names the second encoding only if there is one, and its ids are known if they are needed.
 pub record Usable (text : List ℕ) (add : Bool) (second : Option Encoding) (table : List Special) (pieces : List Piece) : Type 0 where

@@ -1,19 +1,15 @@
 // Whether `process` can be done, and by which steps: all that is decided before anything is written (document 01, module 9).
-ghost use mathlib.Core.Bool.{not, _&&_, cond};
 ghost use mathlib.Core.Path.{_≡_};
 ghost use Prim.Native.Nat.{_*_};
 ghost use lib.ListN.{length};
-ghost use Rattle.template_find.specs.Contracts.{IdsInside};
 ghost use Rattle.template_text.specs.Template.{mostParts, pieceWidth};
-ghost use Rattle.process_check.specs.Contracts.{DecidesProcess, OneOrTwoStored, SecondAt, ChecksTemplate, namesSecond};
+ghost use Rattle.process_check.specs.Contracts.{Decides};
 ghost use Rattle.process_check.specs.Process.{processOutcome};
 use process_plan::PlanAnswer;
-use record::Encoding;
 use record::Refusal;
 use record::Spot;
 use template_known::Validity;
 use template_table::TableAnswer;
-use template_walk::SequencesAnswer;
 
 // Refused; or so many steps to take, with the spot of the second encoding.
 pub enum Decision {
@@ -38,7 +34,7 @@ pub fn decide<'a>(
     steps: &mut [u32],
 ) -> Decision
     requires { ⌜ length (now steps) ≡ mostParts * pieceWidth ⌝ }
-    ensures { λ r. ⌜ DecidesProcess
+    ensures { λ r. ⌜ Decides
         (processOutcome (now (nodes .entry)) (now (rows .entry)) «single_set» (now (single .entry)) «pair_set» (now (pair .entry))
         (now (entries .entry)) (now (members .entry)) (now (added .entry)) «add_special_tokens»)
         (now (nodes .entry)) (now (rows .entry)) (now (entries .entry)) (now (members .entry)) (now (steps .exit)) r ⌝ }
@@ -50,9 +46,9 @@ pub fn decide<'a>(
     if let TableAnswer::Refused(why) = table {
         return Decision::Refused(why);
     }
-    let second = second_spot(nodes, rows);
+    let second = process_template::second_spot(nodes, rows);
     let has_second = second.node < nodes.len();
-    let text = text_for(
+    let text = process_template::text_for(
         has_second,
         single_set,
         single,
@@ -61,7 +57,13 @@ pub fn decide<'a>(
         pair,
         b"$A:0 $B:1",
     );
-    let checked = check_template(text, has_second, add_special_tokens, entries, added);
+    let checked = process_template::check_template(
+        text,
+        has_second,
+        add_special_tokens,
+        entries,
+        added,
+    );
     if let Validity::Refused(why) = checked {
         return Decision::Refused(why);
     }
@@ -70,73 +72,4 @@ pub fn decide<'a>(
         return Decision::Refused(Refusal::PartUnreadable);
     };
     Decision::Take { second, count }
-}
-
-// The text of the template that is used: the pair's where there is a second encoding.
-fn text_for<'a>(
-    second: bool,
-    single_set: bool,
-    single: &'a [u8],
-    unset_single: &'a [u8],
-    pair_set: bool,
-    pair: &'a [u8],
-    unset_pair: &'a [u8],
-) -> &'a [u8]
-    ensures { λ r. ⌜ now r ≡ cond second (cond «pair_set» (now (pair .entry)) (now («unset_pair» .entry)))
-        (cond «single_set» (now (single .entry)) (now («unset_single» .entry))) ⌝ }
-{
-    let single_text = template_text::text_used(single_set, single, unset_single);
-    let pair_text = template_text::text_used(pair_set, pair, unset_pair);
-    template_text::text_used(second, pair_text, single_text)
-}
-
-// Where the second encoding stands, or where it would.
-fn second_spot(nodes: &[u32], rows: &[u32]) -> Spot
-    requires { ⌜ OneOrTwoStored (now nodes) (now rows) ⌝ }
-    ensures { λ r. ⌜ SecondAt (now (nodes .entry)) (now (rows .entry)) r ⌝ }
-{
-    let first = record_extent::measure(nodes, 0, 1);
-    Spot {
-        node: first.nodes * Encoding::NODE_WIDTH,
-        row: first.rows * Encoding::ROW_WIDTH,
-    }
-}
-
-// Whether a template can be used, with a second encoding or without. Refused with 8, 7, 11, then 10 if special tokens are
-// added.
-fn check_template(
-    text: &[u8],
-    second: bool,
-    add_special_tokens: bool,
-    entries: &[u32],
-    added: &[u8],
-) -> Validity
-    requires { ⌜ IdsInside (now entries) (now added) ⌝ }
-    ensures { λ r. ⌜ ChecksTemplate (now (text .entry)) second «add_special_tokens» (now (entries .entry)) (now (added .entry))
-        r ⌝ }
-{
-    let named = template_walk::sequences_in(text);
-    if let SequencesAnswer::Refused(why) = named {
-        return Validity::Refused(why);
-    }
-    if lacks_second(named, second) {
-        return Validity::Refused(Refusal::BWithoutSecond);
-    }
-    if !add_special_tokens {
-        return Validity::Valid;
-    }
-    template_known::all_known(text, entries, added)
-}
-
-// Whether a template names the second encoding, and there is none.
-fn lacks_second(named: SequencesAnswer, second: bool) -> bool
-    ensures { λ r. ⌜ r ≡ (not second && namesSecond named) ⌝ }
-{
-    if second {
-        return false;
-    }
-    match named {
-        SequencesAnswer::Refused(_) => false,
-        SequencesAnswer::Named { a: _, b } => b,
-    }
 }

@@ -13,9 +13,9 @@ use Rattle.template_text.specs.Template.{readTemplate}
 use Rattle.template_entries.specs.Table.{Special, sound, readTable}
 use Rattle.template_table.proofs.Table.{answer-sound, answer-refused}
 use Rattle.process_steps.specs.Contracts.{Inputs}
-use Rattle.process_check.specs.Contracts.{usability}
+use Rattle.process_template.specs.Contracts.{usability}
 use Rattle.process_check.specs.Process.{whichFor, textFor}
-use Rattle.process_check.proofs.Inputs.{hasSecond, second-told}
+use Rattle.process_template.proofs.Inputs.{hasSecond, second-told}
 use Rattle.process_check.proofs.Checking.{sound-inside, sound-fits, read-short}
 use Rattle.process_check.proofs.Deciding.{table-not-six, usable, has-steps, text-told, decide-malformed, decide-faulty, decide-unusable, decide-take}
 use Rattle.process_check.proofs.decide.Statement.{statement}

@@ -2,8 +2,8 @@
 use mathlib.Core.Path.{ap₂, _∙_}
 use mathlib.Core.Bool.{cond}
 use borrow.Author.Needs.{needs}
-use Rattle.process_check.proofs.text_for.Statement.{statement}
-use Rattle.process_check.proofs.text_for.Tie as tie
+use Rattle.process_template.proofs.text_for.Statement.{statement}
+use Rattle.process_template.proofs.text_for.Tie as tie
 
 text-used-requires : tie.Need-text-used-requires
 text-used-requires c κs = search needs

@@ -4,9 +4,9 @@ use native.Mathlib.Omega.{arith}
 use Rattle.record.specs.Tree.{forest}
 use Rattle.record_extent.proofs.Pair.{first-here, few-held}
 use Rattle.record_extent.proofs.Stands.{here-stands}
-use Rattle.process_check.proofs.Inputs.{inputs-of}
-use Rattle.process_check.proofs.second_spot.Statement.{statement}
-use Rattle.process_check.proofs.second_spot.Tie as tie
+use Rattle.process_template.proofs.Inputs.{inputs-of}
+use Rattle.process_template.proofs.second_spot.Statement.{statement}
+use Rattle.process_template.proofs.second_spot.Tie as tie
 
 measure-requires : tie.Need-measure-requires
 measure-requires c κs = let a = c .before .before .pre in (forest (a .E ∷ []), here-stands (first-here (a .second) (a .stores)))

@@ -8,10 +8,10 @@ use Rattle.template_text.specs.Template.{readTemplate}
 use Rattle.template_walk.specs.Sequences.{sequencesAnswer}
 use Rattle.template_walk.specs.declared.SequencesAnswer.{SequencesAnswer}
 use Rattle.template_walk.specs.declared.SequencesAnswer.the-variants.{Named}
-use Rattle.process_check.specs.Contracts.{namesSecond}
-use Rattle.process_check.proofs.Checking.{check-unread, check-lacking, check-unadded, check-known}
-use Rattle.process_check.proofs.check_template.Statement.{statement}
-use Rattle.process_check.proofs.check_template.Tie as tie
+use Rattle.process_template.specs.Contracts.{namesSecond}
+use Rattle.process_template.proofs.Testing.{check-unread, check-lacking, check-unadded, check-known}
+use Rattle.process_template.proofs.check_template.Statement.{statement}
+use Rattle.process_template.proofs.check_template.Tie as tie
 
 -- past the first question the template can be read
 named : (c : tie.After-enum-told) → sequencesAnswer (readTemplate (now (c .before .before .before .before .before .before .args .text))) ≡ Named (c .enum-told .given .0 .0) (c .enum-told .given .0 .1 .0)
