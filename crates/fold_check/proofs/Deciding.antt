@@ -22,7 +22,7 @@ use Rattle.record_room.specs.declared.Size.{Size}
 use Rattle.join_size.specs.Contracts.{Sizes}
 use Rattle.record_room.specs.Room.{hasRoom}
 use Rattle.join_size.proofs.Sizes.{roomy-takes, roomy-room, not-roomy}
-use Rattle.fold_check.specs.Contracts.{RefusedBy, FoldedBy}
+use Rattle.fold_check.specs.Contracts.{RefusedFold, FoldedBy}
 
 -- ---- What was checked
 
@@ -30,7 +30,7 @@ outcome-malformed : (g : Bool) (r : Reading) (out out′ working working′ : Li
 outcome-malformed g malformed out out′ working working′ e = fold-malformed g out out′ working working′
 outcome-malformed g (holds f) out out′ working working′ e = absurd (let z : _≡_ {A = ℕ} 0 1 = cc in omega arith)
 
-pub decided-malformed : (g : Bool) {xs rs : List ℕ} (out out′ working working′ : List ℕ) → shapeOf (read xs rs) ≡ Malformed → RefusedBy g xs rs out out′ working working′ MalformedRecord
+pub decided-malformed : (g : Bool) {xs rs : List ℕ} (out out′ working working′ : List ℕ) → shapeOf (read xs rs) ≡ Malformed → RefusedFold g xs rs out out′ working working′ MalformedRecord
 decided-malformed g out out′ working working′ e = record { told = outcome-malformed g _ out out′ working working′ e; not-six = refl }
 
 pub batch-there : (nodes rows : List ℕ) (n : ℕ) → shapeOf (read nodes rows) ≡ Encodings n → (f : Forest) × Stores nodes rows f × (n ≡ tops f)
@@ -43,13 +43,13 @@ batch-there nodes rows n e = go (read nodes rows) refl e
 -- ---- What is decided, of an output and a working store that are as long as was told
 
 module _ {xs rs : List ℕ} {f : Forest} (s : Stores xs rs f) (g : Bool) (out out′ working working′ : List ℕ) {size : Size} (sized : Sizes (fold g (listed f)) size) {a b : ℕ} (p : length out ≡ a) (p′ : length out′ ≡ b) {c d : ℕ} (q : length working ≡ c) (q′ : length working′ ≡ d) where
-  pub decided-no-room : hasRoom size a b ≡ false → RefusedBy g xs rs out out′ working working′ NoRoom
+  pub decided-no-room : hasRoom size a b ≡ false → RefusedFold g xs rs out out′ working working′ NoRoom
   decided-no-room e = record {
     told = fold-of g out out′ working working′ s ∙ fold-no-room g out out′ working working′ (listed f) (λ r _. not-roomy sized out out′ (ap₂ (hasRoom size) p p′ ∙ e) r);
     not-six = refl;
   }
 
-  pub decided-no-working : hasRoom size c d ≡ false → RefusedBy g xs rs out out′ working working′ NoRoom
+  pub decided-no-working : hasRoom size c d ≡ false → RefusedFold g xs rs out out′ working working′ NoRoom
   decided-no-working e = record {
     told = fold-of g out out′ working working′ s ∙ fold-no-room g out out′ working working′ (listed f) (λ _ r. not-roomy sized working working′ (ap₂ (hasRoom size) q q′ ∙ e) r);
     not-six = refl;

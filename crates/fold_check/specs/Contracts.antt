@@ -24,7 +24,7 @@ use Rattle.fold_check.specs.declared.Decision.the-variants.{Refused, Too
 -- ---- The size
 
 -- the two lists store `count` encodings
-pub record AskSize (nodes rows : List ℕ) (count : ℕ) : Type 0 where
+pub record AskFoldSize (nodes rows : List ℕ) (count : ℕ) : Type 0 where
   pub f : Forest
   pub stores : Stores nodes rows f
   pub counts : count ≡ tops f
@@ -36,7 +36,7 @@ SizesFold nodes rows s = (growing : Bool) (f : Forest) → Stores nodes rows f �
 -- ---- The decision: of an output and a working store, by their lengths
 
 -- Refused, and not with 6, the one refusal that changes a buffer.
-pub record RefusedBy (growing : Bool) (nodes rows out out′ working working′ : List ℕ) (k : Refusal) : Type 0 where
+pub record RefusedFold (growing : Bool) (nodes rows out out′ working working′ : List ℕ) (k : Refusal) : Type 0 where
   pub told : foldOutcome growing (read nodes rows) out out′ working working′ ≡ refused k
   pub not-six : eqb (numberOf k) 6 ≡ false
 
@@ -51,11 +51,11 @@ pub record FoldedBy (growing : Bool) (nodes rows out out′ working working′ :
   pub rows-taken : m ≡ rowsIn (forest (fold growing (listed f) ∷ []))
 
 abbrev pub Decided : Bool → List ℕ → List ℕ → List ℕ → List ℕ → List ℕ → List ℕ → Decision → Type 0
-Decided growing nodes rows out out′ working working′ (Refused k) = RefusedBy growing nodes rows out out′ working working′ k
+Decided growing nodes rows out out′ working working′ (Refused k) = RefusedFold growing nodes rows out out′ working working′ k
 Decided growing nodes rows out out′ working working′ TooLarge = foldOutcome growing (read nodes rows) out out′ working working′ ≡ refused OffsetTooLarge
 Decided growing nodes rows out out′ working working′ (Fold n m) = FoldedBy growing nodes rows out out′ working working′ n m
 
 -- a decision for every output and working store that are so long
-abbrev pub Decides : Bool → List ℕ → List ℕ → ℕ → ℕ → ℕ → ℕ → Decision → Type 0
-Decides growing nodes rows a b c d decision =
+abbrev pub DecidesFold : Bool → List ℕ → List ℕ → ℕ → ℕ → ℕ → ℕ → Decision → Type 0
+DecidesFold growing nodes rows a b c d decision =
     (out out′ working working′ : List ℕ) → length out ≡ a → length out′ ≡ b → length working ≡ c → length working′ ≡ d → Decided growing nodes rows out out′ working working′ decision

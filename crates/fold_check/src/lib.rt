@@ -1,5 +1,5 @@
 // Whether a fold can be done, and how much it takes: all that is decided before anything is written (document 01, `merge`).
-ghost use Rattle.fold_check.specs.Contracts.{AskSize, SizesFold, Decides};
+ghost use Rattle.fold_check.specs.Contracts.{AskFoldSize, SizesFold, DecidesFold};
 use record::Encoding;
 use record::Refusal;
 use record_check::Shape;
@@ -23,7 +23,7 @@ pub fn decide(
     working_node_room: usize,
     working_row_room: usize,
 ) -> Decision
-    ensures { λ r. ⌜ Decides growing (now (nodes .entry)) (now (rows .entry)) «node_room» «row_room» «working_node_room»
+    ensures { λ r. ⌜ DecidesFold growing (now (nodes .entry)) (now (rows .entry)) «node_room» «row_room» «working_node_room»
         «working_row_room» r ⌝ }
 {
     let Shape::Encodings(count) = record_check::check_batch(nodes, rows) else {
@@ -47,7 +47,7 @@ pub fn decide(
 
 // What the fold of a batch of `count` encodings takes. Where none of them has windows it is one node with all the rows.
 fn fold_size(nodes: &[u32], rows: &[u32], count: usize) -> Size
-    requires { ⌜ AskSize (now nodes) (now rows) count ⌝ }
+    requires { ⌜ AskFoldSize (now nodes) (now rows) count ⌝ }
     ensures { λ r. ⌜ SizesFold (now (nodes .entry)) (now (rows .entry)) r ⌝ }
 {
     if nodes.len() == count * Encoding::NODE_WIDTH {

@@ -38,9 +38,9 @@ pub record TakenBy (outcome : List ℕ → List ℕ → List ℕ → List ℕ �
   pub steps-here : StepsHere nodes rows s entries members numbers count E second steps
   pub folded : (out out′ working working′ : List ℕ) → outcome out out′ working working′ ≡ foldedInto (map (stepEncoding entries members E second) steps) out out′ working working′
 
-abbrev pub Decides : (List ℕ → List ℕ → List ℕ → List ℕ → Outcome) → List ℕ → List ℕ → List ℕ → List ℕ → List ℕ → Decision → Type 0
-Decides outcome nodes rows entries members numbers (RefusedWith k) = RefusedBy outcome k
-Decides outcome nodes rows entries members numbers (Take s count) = TakenBy outcome nodes rows entries members numbers s count
+abbrev pub DecidesProcess : (List ℕ → List ℕ → List ℕ → List ℕ → Outcome) → List ℕ → List ℕ → List ℕ → List ℕ → List ℕ → Decision → Type 0
+DecidesProcess outcome nodes rows entries members numbers (RefusedWith k) = RefusedBy outcome k
+DecidesProcess outcome nodes rows entries members numbers (Take s count) = TakenBy outcome nodes rows entries members numbers s count
 
 -- ---- What passed
 

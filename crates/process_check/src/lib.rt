@@ -3,7 +3,7 @@ ghost use mathlib.Core.Path.{_≡_};
 ghost use Prim.Native.Nat.{_*_};
 ghost use lib.ListN.{length};
 ghost use Rattle.template_text.specs.Template.{mostParts, pieceWidth};
-ghost use Rattle.process_check.specs.Contracts.{Decides};
+ghost use Rattle.process_check.specs.Contracts.{DecidesProcess};
 ghost use Rattle.process_check.specs.Process.{processOutcome};
 use process_plan::PlanAnswer;
 use record::Refusal;
@@ -34,7 +34,7 @@ pub fn decide<'a>(
     steps: &mut [u32],
 ) -> Decision
     requires { ⌜ length (now steps) ≡ mostParts * pieceWidth ⌝ }
-    ensures { λ r. ⌜ Decides
+    ensures { λ r. ⌜ DecidesProcess
         (processOutcome (now (nodes .entry)) (now (rows .entry)) «single_set» (now (single .entry)) «pair_set» (now (pair .entry))
         (now (entries .entry)) (now (members .entry)) (now (added .entry)) «add_special_tokens»)
         (now (nodes .entry)) (now (rows .entry)) (now (entries .entry)) (now (members .entry)) (now (steps .exit)) r ⌝ }

@@ -22,7 +22,7 @@ use Rattle.process_steps.specs.Contracts.{Inputs}
 
 -- ---- Where the second encoding stands
 
-pub record Two (nodes rows : List ℕ) : Type 0 where
+pub record OneOrTwoStored (nodes rows : List ℕ) : Type 0 where
   pub E : Encoding
   pub second : Option Encoding
   pub stores : OneOrTwo nodes rows E second

@@ -3,7 +3,7 @@
 ghost use mathlib.Core.Bool.{not, _&&_, cond};
 ghost use mathlib.Core.Path.{_≡_};
 ghost use Rattle.template_find.specs.Contracts.{IdsInside};
-ghost use Rattle.process_template.specs.Contracts.{Two, SecondAt, ChecksTemplate, namesSecond};
+ghost use Rattle.process_template.specs.Contracts.{OneOrTwoStored, SecondAt, ChecksTemplate, namesSecond};
 use record::Encoding;
 use record::Refusal;
 use record::Spot;
@@ -30,7 +30,7 @@ pub fn text_for<'a>(
 
 // Where the second encoding stands, or where it would.
 pub fn second_spot(nodes: &[u32], rows: &[u32]) -> Spot
-    requires { ⌜ Two (now nodes) (now rows) ⌝ }
+    requires { ⌜ OneOrTwoStored (now nodes) (now rows) ⌝ }
     ensures { λ r. ⌜ SecondAt (now (nodes .entry)) (now (rows .entry)) r ⌝ }
 {
     let first = record_extent::measure(nodes, 0, 1);

@@ -30,12 +30,12 @@ abbrev pub RowOk : ℕ → ℕ → ℕ → Type 0
 RowOk pool mark word = (pool ≤ 1) × (((mark ≡ 0) × (word ≡ 0)) ⊎ (mark ≡ 1))
 
 -- how many numbers a number of the record can be
-abbrev pub numbers : ℕ
-numbers = 4294967296
+abbrev pub u32Count : ℕ
+u32Count = 4294967296
 
 -- the mark at `at` with the word after it above
 abbrev pub markedWord : List ℕ → ℕ → ℕ
-markedWord rows at = getD rows at 0 + getD rows (at + 1) 0 * numbers
+markedWord rows at = getD rows at 0 + getD rows (at + 1) 0 * u32Count
 
 -- r is at most 1 exactly if x is odd or 0
 pub record LowestBit (x r : ℕ) : Type 0 where

@@ -2,18 +2,18 @@
 use Prim.Native.Nat.{_+_, _<_}
 use native.Mathlib.Omega.{arith}
 use borrow.Author.Needs.{needs}
-use Rattle.record_fields.specs.Contracts.{numbers}
+use Rattle.record_fields.specs.Contracts.{u32Count}
 use Rattle.record_fields.proofs.marked_word.Statement.{statement}
 use Rattle.record_fields.proofs.marked_word.Tie as tie
 
 -- the mark and the word are numbers of the record
-small-mark : (c : tie.After-wide2) → c .before .before .wide .result < numbers
+small-mark : (c : tie.After-wide2) → c .before .before .wide .result < u32Count
 small-mark c =
     let w = c .before .before in
     let start = w .before .before in
     omega (arith, w .wide .ensures, start .shared-slice-known .given (start .before .args .at))
 
-small-word : (c : tie.After-wide2) → c .wide2 .result < numbers
+small-word : (c : tie.After-wide2) → c .wide2 .result < u32Count
 small-word c =
     let start = c .before .before .before .before in
     omega (arith, c .wide2 .ensures, start .shared-slice-known .given (start .before .args .at + 1))
