@@ -37,7 +37,7 @@ pub fn copy_shifted(rows: &[u32], j: usize, count: usize, n: u32, out_rows: &mut
         join_add::add_at(rows, j + i, BLOCK, &shifts, out_rows, at + i);
         i += BLOCK;
     }
-    join_add::add_at(rows, j + i, size - i, &shifts, out_rows, at + i);
+    join_add::add_few_at(rows, j + i, size - i, &shifts, out_rows, at + i);
 }
 
 // The block that moves the offsets of four rows on by n.

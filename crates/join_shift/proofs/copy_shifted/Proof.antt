@@ -82,20 +82,20 @@ loop-again c =
           part-on h p 4 (omega arith) (four-left h p (omega (arith, k))) (l .before .block-of-shifts .ensures) refl e,
     )
 
-add-add-at-3 : tie.Need-add-add-at-3 Inv-loop μ-loop
-add-add-at-3 c = search needs
+add-add-few-at : tie.Need-add-add-few-at Inv-loop μ-loop
+add-add-few-at c = search needs
 
-sub-add-at : tie.Need-sub-add-at Inv-loop μ-loop
-sub-add-at c = search needs
+sub-add-few-at : tie.Need-sub-add-few-at Inv-loop μ-loop
+sub-add-few-at c = search needs
 
-slice-aggregate-add-at-2 : tie.Need-slice-aggregate-add-at-2 Inv-loop μ-loop
-slice-aggregate-add-at-2 c = search needs
+slice-aggregate-add-few-at : tie.Need-slice-aggregate-add-few-at Inv-loop μ-loop
+slice-aggregate-add-few-at c = search needs
 
-add-add-at-4 : tie.Need-add-add-at-4 Inv-loop μ-loop
-add-add-at-4 c = search needs
+add-add-few-at-2 : tie.Need-add-add-few-at-2 Inv-loop μ-loop
+add-add-few-at-2 c = search needs
 
-add-at-requires-2 : tie.Need-add-at-requires-2 Inv-loop μ-loop
-add-at-requires-2 c κs =
+add-few-at-requires : tie.Need-add-few-at-requires Inv-loop μ-loop
+add-few-at-requires c κs =
     let l = c .before .before .before in
     let a = start l .before .pre in
     let p = l .loop .inv .2 (a .R) (a .there) (a .size) in
@@ -111,7 +111,7 @@ returns-2 c =
     record {
       made = λ R h k.
           let p = l .loop .inv .2 R h k in
-          part-end h (part-on h p (length (p .B)) (few-left h p (omega (arith, k))) (omega arith) {m = m} (l .before .block-of-shifts .ensures) (rest-left h p (omega (arith, k))) (c .before .before .add-at2 .ensures)) (omega (arith, k));
+          part-end h (part-on h p (length (p .B)) (few-left h p (omega (arith, k))) (omega arith) {m = m} (l .before .block-of-shifts .ensures) (rest-left h p (omega (arith, k))) (c .before .before .add-few-at .ensures)) (omega (arith, k));
     }
 
 pub copy-shifted-spec : {M : Type 1} → statement M
@@ -134,10 +134,10 @@ copy-shifted-spec =
     add-i
     loop-less
     loop-again
-    add-add-at-3
-    sub-add-at
-    slice-aggregate-add-at-2
-    add-add-at-4
-    add-at-requires-2
+    add-add-few-at
+    sub-add-few-at
+    slice-aggregate-add-few-at
+    add-add-few-at-2
+    add-few-at-requires
     same-length-2
     returns-2)
