@@ -8,6 +8,11 @@ use Rattle.fold.proofs.Writing.{fold-asks, fold-writes}
 use Rattle.fold.proofs.merge.Statement.{statement}
 use Rattle.fold.proofs.merge.Tie as tie
 
+-- ---- The places that others look back to
+
+abbrev after-decision2 : tie.After-write-fold-arg4 → tie.After-decision2
+after-decision2 c = c .before .before .before .before .before
+
 -- the places: where the call began; where all was zeroed, and where the fold was written
 abbrev Began : tie.After-decide → tie.Start
 Began c = c .before .before .before .before .before .before .before
@@ -42,7 +47,7 @@ enum-known-decision-2 : tie.Need-enum-known-decision-2
 enum-known-decision-2 c = search needs
 
 write-fold-requires : tie.Need-write-fold-requires
-write-fold-requires c κs = fold-asks (folded (c .before .before .before .before .before))
+write-fold-requires c κs = fold-asks (folded (after-decision2 c))
 
 returns : tie.Need-returns
 returns c =
@@ -82,7 +87,7 @@ same-length-8 c = Writing c .write-fold .kept .1 .1 .1 .1 .1 .1 .0
 returns-3 : tie.Need-returns-3
 returns-3 c =
     let w = Writing c in
-    let d = folded (w .before .before .before .before .before .before) in
+    let d = folded (after-decision2 (w .before)) in
     fold-writes d (w .write-fold .ensures .0 (d .f) (d .stores)) (w .write-fold .ensures .1)
 
 pub merge-spec : {M : Type 1} → statement M

@@ -14,6 +14,14 @@ use Rattle.fold_check.proofs.Deciding.{decided-malformed, batch-there, 
 use Rattle.fold_check.proofs.decide.Statement.{statement}
 use Rattle.fold_check.proofs.decide.Tie as tie
 
+-- ---- The places that others look back to
+
+abbrev after-known-told : tie.Else2 → tie.After-known-told
+after-known-told c = c .before .before .before .before .before
+
+abbrev after-fold-size : tie.Else2 → tie.After-fold-size
+after-fold-size c = c .before .before .before .before
+
 -- where the call began, from past the first test
 abbrev Began : tie.After-known-told → tie.Start
 Began c = c .before .before .before .before .before .before
@@ -30,12 +38,12 @@ sized c = let b = the-batch (c .before) in c .fold-size .ensures _ (b .0) (b .1)
 roomed : (c : tie.Else1) → let s = c .before .before in let v = Began (s .before) .args in hasRoom (s .fold-size .result) (v .node-room) (v .row-room) ≡ true
 roomed c = sym (c .before .has-room .ensures) ∙ not-false _ (c .if1 .left)
 
-working-roomed : (c : tie.Else2) → let s = c .before .before .before .before in let v = Began (s .before) .args in hasRoom (s .fold-size .result) (v .working-node-room) (v .working-row-room) ≡ true
+working-roomed : (c : tie.Else2) → let s = after-fold-size c in let v = Began (s .before) .args in hasRoom (s .fold-size .result) (v .working-node-room) (v .working-row-room) ≡ true
 working-roomed c = sym (c .before .has-room2 .ensures) ∙ not-false _ (c .if2 .left)
 
 -- whether its offsets fit
-fits : (c : tie.After-fold-fits) → let s = c .before .before .before .before .before in c .fold-fits .result ≡ foldFits (Began (s .before) .args .growing) (listed (the-batch (s .before) .0))
-fits c = let b = the-batch (c .before .before .before .before .before .before) in c .fold-fits .ensures (b .0) (b .1)
+fits : (c : tie.After-fold-fits) → let s = after-fold-size (c .before) in c .fold-fits .result ≡ foldFits (Began (s .before) .args .growing) (listed (the-batch (s .before) .0))
+fits c = let b = the-batch (after-known-told (c .before)) in c .fold-fits .ensures (b .0) (b .1)
 
 check-batch-requires : tie.Need-check-batch-requires
 check-batch-requires c κs = tt
@@ -65,18 +73,18 @@ returns-3 : tie.Need-returns-3
 returns-3 c = λ out out′ working working′ p p′ q q′. let s = c .before .before .before .before in decided-no-working (the-batch (s .before) .1) _ out out′ working working′ (sized s) p p′ q q′ (sym (c .before .has-room2 .ensures) ∙ not-true _ (c .if2 .taken))
 
 fold-fits-requires : tie.Need-fold-fits-requires
-fold-fits-requires c κs = let b = the-batch (c .before .before .before .before .before) in (b .0, b .1)
+fold-fits-requires c κs = let b = the-batch (after-known-told c) in (b .0, b .1)
 
 returns-4 : tie.Need-returns-4
 returns-4 c = λ out out′ working working′ p p′ q q′.
     let r = c .before .before in
-    let s = r .before .before .before .before in
+    let s = after-fold-size r in
     decided-too-large (the-batch (s .before) .1) _ out out′ working working′ (sized s) p p′ q q′ (roomed (r .before .before)) (working-roomed r) (sym (fits (c .before)) ∙ not-true _ (c .if3 .taken))
 
 returns-5 : tie.Need-returns-5
 returns-5 c = λ out out′ working working′ p p′ q q′.
     let r = c .before .before in
-    let s = r .before .before .before .before in
+    let s = after-fold-size r in
     decided-fold (the-batch (s .before) .1) _ out out′ working working′ (sized s) p p′ q q′ (roomed (r .before .before)) (working-roomed r) (sym (fits (c .before)) ∙ not-false _ (c .if3 .left))
 
 pub decide-spec : {M : Type 1} → statement M

@@ -10,6 +10,11 @@ use Rattle.join_add.proofs.Added.{length-added, part-at}
 use Rattle.join_add.proofs.add_few_at.Statement.{statement}
 use Rattle.join_add.proofs.add_few_at.Tie as tie
 
+-- ---- The places that others look back to
+
+abbrev start : tie.After-add-few-arg2 → tie.Start
+start c = c .before .before .before .before .before
+
 add-add-few : tie.Need-add-add-few
 add-add-few c = search needs
 
@@ -42,7 +47,7 @@ part-add-few-end-2 c = search needs
 
 add-few-requires : tie.Need-add-few-requires
 add-few-requires c κs =
-    let b = c .before .before .before .before .before in
+    let b = start c in
     let v = b .args in
     let size = v .from + v .m - v .from in
     record {
@@ -58,7 +63,7 @@ same-length c = search needs
 
 returns : tie.Need-returns
 returns c =
-    let b = c .before .before .before .before .before .before .before .before in
+    let b = start (c .before .before .before) in
     let v = b .args in
     let e = c .before .before .add-few .ensures in
     let k : v .from + v .m - v .from ≡ v .m = omega arith in

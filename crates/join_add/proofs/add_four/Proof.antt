@@ -6,6 +6,11 @@ use Rattle.join_add.proofs.Added.{ask-sum, four-stored}
 use Rattle.join_add.proofs.add_four.Statement.{statement}
 use Rattle.join_add.proofs.add_four.Tie as tie
 
+-- ---- The places that others look back to
+
+abbrev start : tie.After-sum-at → tie.Start
+start c = c .before .before .before .before
+
 sum-at-requires : tie.Need-sum-at-requires
 sum-at-requires c κs = ask-sum _ (c .before .before .before .pre .0) (omega arith)
 
@@ -13,19 +18,19 @@ add-sum-at : tie.Need-add-sum-at
 add-sum-at c = search needs
 
 sum-at-requires-2 : tie.Need-sum-at-requires-2
-sum-at-requires-2 c κs = ask-sum _ (c .before .before .before .before .pre .0) (omega arith)
+sum-at-requires-2 c κs = ask-sum _ (start c .pre .0) (omega arith)
 
 add-sum-at-2 : tie.Need-add-sum-at-2
 add-sum-at-2 c = search needs
 
 sum-at-requires-3 : tie.Need-sum-at-requires-3
-sum-at-requires-3 c κs = ask-sum _ (c .before .before .before .before .before .pre .0) (omega arith)
+sum-at-requires-3 c κs = ask-sum _ (start (c .before) .pre .0) (omega arith)
 
 add-sum-at-3 : tie.Need-add-sum-at-3
 add-sum-at-3 c = search needs
 
 sum-at-requires-4 : tie.Need-sum-at-requires-4
-sum-at-requires-4 c κs = ask-sum _ (c .before .before .before .before .before .before .pre .0) (omega arith)
+sum-at-requires-4 c κs = ask-sum _ (start (c .before .before) .pre .0) (omega arith)
 
 mul-dst : tie.Need-mul-dst
 mul-dst c = search needs
@@ -68,7 +73,7 @@ returns c =
     let three = c .before in
     let two = three .before in
     let one = two .before in
-    let v = one .before .before .before .before .args in
+    let v = start one .args in
     four-stored (v .src .now) (v .more .now) (v .dst .now) (v .i) (one .sum-at .ensures) (two .sum-at2 .ensures) (three .sum-at3 .ensures) (c .sum-at4 .ensures)
 
 pub add-four-spec : {M : Type 1} → statement M

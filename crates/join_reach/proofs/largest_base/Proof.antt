@@ -21,6 +21,14 @@ Inv-loop nodes i count rows j left₀ node₀ row₀ largest₀ left node row la
 abbrev μ-loop : tie.MeasureT-loop
 μ-loop nodes i count rows j left₀ node₀ row₀ largest₀ left node row largest = left
 
+-- ---- The places that others look back to
+
+abbrev start : tie.In-loop Inv-loop μ-loop → tie.Start Inv-loop μ-loop
+start c = c .before .before .before .before
+
+abbrev in-loop : tie.After-larger-number Inv-loop μ-loop → tie.In-loop Inv-loop μ-loop
+in-loop c = c .before .before .before .before
+
 abbrev Nodes : tie.At-loop Inv-loop μ-loop → List ℕ
 Nodes c = now (c .before .before .before .args .nodes)
 
@@ -28,8 +36,8 @@ abbrev Rows : tie.At-loop Inv-loop μ-loop → List ℕ
 Rows c = now (c .before .before .before .args .rows)
 
 -- the turn that the loop takes, for what is known to stand there
-the-turn : (c : tie.In-loop Inv-loop μ-loop) → Turn (Nodes (c .before)) (Rows (c .before)) (c .before .before .before .before .pre .0) (c .before .loop .left) (c .before .loop .node) (c .before .loop .row) (c .before .loop .largest)
-the-turn c = let a = c .before .before .before .before .pre in walked-turn (c .before .loop .inv (a .0) (a .1)) (c .loop-test .taken)
+the-turn : (c : tie.In-loop Inv-loop μ-loop) → Turn (Nodes (c .before)) (Rows (c .before)) (start c .pre .0) (c .before .loop .left) (c .before .loop .node) (c .before .loop .row) (c .before .loop .largest)
+the-turn c = let a = start c .pre in walked-turn (c .before .loop .inv (a .0) (a .1)) (c .loop-test .taken)
 
 loop-holds : tie.Need-loop-holds Inv-loop μ-loop
 loop-holds c = λ f h. walked-start h
@@ -54,13 +62,13 @@ larger-number-requires : tie.Need-larger-number-requires Inv-loop μ-loop
 larger-number-requires c κs = search needs
 
 mul-row : tie.Need-mul-row Inv-loop μ-loop
-mul-row c = omega (arith, the-turn (c .before .before .before .before) .rows-fit, c .before .before .wide .ensures)
+mul-row c = omega (arith, the-turn (in-loop c) .rows-fit, c .before .before .wide .ensures)
 
 add-row : tie.Need-add-row Inv-loop μ-loop
-add-row c = omega (arith, the-turn (c .before .before .before .before) .rows-fit, c .before .before .wide .ensures)
+add-row c = omega (arith, the-turn (in-loop c) .rows-fit, c .before .before .wide .ensures)
 
 add-node : tie.Need-add-node Inv-loop μ-loop
-add-node c = omega (arith, the-turn (c .before .before .before .before) .long)
+add-node c = omega (arith, the-turn (in-loop c) .long)
 
 sub-left : tie.Need-sub-left Inv-loop μ-loop
 sub-left c = search needs
@@ -70,7 +78,7 @@ loop-less c = search needs
 
 loop-again : tie.Need-loop-again Inv-loop μ-loop
 loop-again c = λ f h.
-    let t = c .before .before .before .before in
+    let t = in-loop c in
     let l = t .before in
     let u = walked-turn (l .loop .inv f h) (t .loop-test .taken) in
     let w = c .before .before in

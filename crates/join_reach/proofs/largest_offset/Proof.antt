@@ -20,6 +20,11 @@ Inv-loop rows j count left₀ row₀ largest₀ left row largest = (R : List Row
 abbrev μ-loop : tie.MeasureT-loop
 μ-loop rows j count left₀ row₀ largest₀ left row largest = left
 
+-- ---- The places that others look back to
+
+abbrev in-loop : tie.After-larger-number2 Inv-loop μ-loop → tie.In-loop Inv-loop μ-loop
+in-loop c = c .before .before .before .before
+
 -- the row that is next fits
 fits : (c : tie.In-loop Inv-loop μ-loop) → c .before .loop .row + rowWidth ≤ length (now (c .before .before .before .args .rows))
 fits c =
@@ -54,7 +59,7 @@ larger-number-requires-2 : tie.Need-larger-number-requires-2 Inv-loop μ-loop
 larger-number-requires-2 c κs = search needs
 
 add-row : tie.Need-add-row Inv-loop μ-loop
-add-row c = omega (arith, fits (c .before .before .before .before))
+add-row c = omega (arith, fits (in-loop c))
 
 sub-left : tie.Need-sub-left Inv-loop μ-loop
 sub-left c = search needs
@@ -64,7 +69,7 @@ loop-less c = search needs
 
 loop-again : tie.Need-loop-again Inv-loop μ-loop
 loop-again c = λ R h.
-    let t = c .before .before .before .before in
+    let t = in-loop c in
     let l = t .before .loop in
     subst (Scanned (now (t .before .before .before .args .rows)) R (l .left - 1) (l .row + rowWidth)) (sym (c .larger-number2 .ensures ∙ ap (max (l .largest)) (c .before .larger-number .ensures)))
     (scanned-turn (l .inv R h) (t .loop-test .taken))

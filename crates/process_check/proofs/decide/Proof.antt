@@ -21,6 +21,11 @@ use Rattle.process_check.proofs.Deciding.{table-not-six, usable, has-st
 use Rattle.process_check.proofs.decide.Statement.{statement}
 use Rattle.process_check.proofs.decide.Tie as tie
 
+-- ---- The places that others look back to
+
+abbrev after-check-template : tie.After-plan → tie.After-check-template
+after-check-template c = c .before .before .before .before
+
 -- the places: where the call began, from the first test and from the table's; past the table's test from the text
 abbrev Began : tie.Else1 → tie.Start
 Began c = c .before .before .before .before .before .before .before .before .before .before
@@ -125,7 +130,7 @@ same-length c = search needs
 returns-4 : tie.Need-returns-4
 returns-4 c =
     let p = c .before .before .before .before in
-    let k = p .before .before .before .before in
+    let k = after-check-template p in
     let e = Spotted (k .before) .before in
     let t = those (Tested e) in
     has-steps (t .0) (t .1) _ _ _ _ _ _ (says k ∙ p .before .before .enum-told2 .given .1) (the-table e .1) (p .plan .ensures) (c .enum-told3 .given .1)
@@ -136,7 +141,7 @@ same-length-2 c = search needs
 returns-5 : tie.Need-returns-5
 returns-5 c =
     let p = c .before .before .before .before .before in
-    let k = p .before .before .before .before in
+    let k = after-check-template p in
     let e = Spotted (k .before) .before in
     let t = those (Tested e) in
     decide-take _ _ _ (t .1) (t .2) _ (the-table e .1) (reads (k .before)) (says k ∙ p .before .before .enum-told2 .given .1) _ _ _ (the-table e .1) (p .plan .ensures) (placed (k .before)) (c .before .answer .given .1)

@@ -13,14 +13,19 @@ use Rattle.process_template.proofs.Testing.{check-unread, check-lacking
 use Rattle.process_template.proofs.check_template.Statement.{statement}
 use Rattle.process_template.proofs.check_template.Tie as tie
 
+-- ---- The places that others look back to
+
+abbrev start : tie.After-enum-told → tie.Start
+start c = c .before .before .before .before .before .before
+
 -- past the first question the template can be read
-named : (c : tie.After-enum-told) → sequencesAnswer (readTemplate (now (c .before .before .before .before .before .before .args .text))) ≡ Named (c .enum-told .given .0 .0) (c .enum-told .given .0 .1 .0)
+named : (c : tie.After-enum-told) → sequencesAnswer (readTemplate (now (start c .args .text))) ≡ Named (c .enum-told .given .0 .0) (c .enum-told .given .0 .1 .0)
 named c = sym (c .before .before .sequences-in .ensures) ∙ c .enum-told .given .1
 
 -- the second question is that of the definition
-lacking : (c : tie.After-lacks-second) → let v = c .before .before .before .before .before .before .before .args in (not (v .second) && namesSecond (sequencesAnswer (readTemplate (now (v .text))))) ≡ c .lacks-second .result
+lacking : (c : tie.After-lacks-second) → let v = start (c .before) .args in (not (v .second) && namesSecond (sequencesAnswer (readTemplate (now (v .text))))) ≡ c .lacks-second .result
 lacking c =
-    let v = c .before .before .before .before .before .before .before .args in
+    let v = start (c .before) .args in
     ap (λ (n : SequencesAnswer). not (v .second) && namesSecond n) (sym (c .before .before .before .sequences-in .ensures)) ∙ sym (c .lacks-second .ensures)
 
 sequences-in-requires : tie.Need-sequences-in-requires

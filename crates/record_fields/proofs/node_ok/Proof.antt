@@ -22,6 +22,11 @@ Inv-loop nodes i k₀ k = (k ≤ sequences) × ((m : ℕ) → m < k → Ok nodes
 abbrev μ-loop : tie.MeasureT-loop
 μ-loop nodes i k₀ k = sequences - k
 
+-- ---- The places that others look back to
+
+abbrev at-loop : tie.After-range-ok Inv-loop μ-loop → tie.At-loop Inv-loop μ-loop
+at-loop c = c .before .before .before .before .before .before
+
 loop-holds : tie.Need-loop-holds Inv-loop μ-loop
 loop-holds c = (omega arith, λ m h. absurd (omega arith))
 
@@ -75,13 +80,13 @@ loop-less c = search needs
 
 loop-again : tie.Need-loop-again Inv-loop μ-loop
 loop-again c =
-    let l = c .before .before .before .before .before .before .before in
+    let l = at-loop (c .before) in
     let v = l .before .before .args in
     (omega arith, below-more _ _ (l .loop .inv .1) (decided (c .before .range-ok .result) (Ok (now (v .nodes)) (v .i) (l .loop .k)) (c .if1 .taken) (c .before .range-ok .ensures)))
 
 returns : tie.Need-returns Inv-loop μ-loop
 returns c all =
-    let l = c .before .before .before .before .before .before .before in
+    let l = at-loop (c .before) in
     let v = l .before .before .args in
     refuted (c .before .range-ok .result) (Ok (now (v .nodes)) (v .i) (l .loop .k)) (c .if1 .left) (c .before .range-ok .ensures) (all (l .loop .k) (omega arith))
 

@@ -5,6 +5,11 @@ use borrow.Author.Needs.{needs}
 use Rattle.replay_answers.proofs.answered.Statement.{statement}
 use Rattle.replay_answers.proofs.answered.Tie as tie
 
+-- ---- The places that others look back to
+
+abbrev start : tie.After-shared-slice-known3 → tie.Start
+start c = c .before .before .before .before .before
+
 returns : tie.Need-returns
 returns c = search needs
 
@@ -25,7 +30,7 @@ shared-slice-read-if3 c = search needs
 
 returns-3 : tie.Need-returns-3
 returns-3 c =
-    let s = c .before .before .before .before .before .before .args in
+    let s = start (c .before) .args in
     other (s .refusal) (s .lent .now) (s .case .now) (s .at) (omega arith) (omega arith) (c .if3 .taken)
 
 mul-equal : tie.Need-mul-equal
@@ -48,7 +53,7 @@ compared-requires c κs = search needs
 
 returns-4 : tie.Need-returns-4
 returns-4 c =
-    let s = c .before .before .before .before .before .before .before .before .before .args in
+    let s = start (c .before .before .before .before) .args in
     rw (c .compared .ensures)
     (told (s .refusal) (s .lent .now) (s .case .now) (s .at) (omega arith) (c .before .equal .result) (omega arith) (c .before .before .before .if3 .left) (c .before .equal .ensures))
 

@@ -17,6 +17,11 @@ Inv-loop bytes numbers i₀ i = (length bytes ≡ length numbers) × (i ≤ leng
 abbrev μ-loop : tie.MeasureT-loop
 μ-loop bytes numbers i₀ i = length bytes - i
 
+-- ---- The places that others look back to
+
+abbrev the-at-loop : tie.After-shared-slice-known4 Inv-loop μ-loop → tie.At-loop Inv-loop μ-loop
+the-at-loop c = c .before .before .before .before
+
 returns : tie.Need-returns Inv-loop μ-loop
 returns c = λ e. c .if1 .taken (ap length e)
 
@@ -38,7 +43,7 @@ shared-slice-read-if2 c = search needs
 returns-2 : tie.Need-returns-2 Inv-loop μ-loop
 returns-2 c =
     λ e. c .if2 .taken
-    (c .before .before .number-of .ensures ∙ ap (λ (l : List ℕ). getD l (c .before .before .before .before .before .loop .i) 0) e)
+    (c .before .before .number-of .ensures ∙ ap (λ (l : List ℕ). getD l (the-at-loop (c .before) .loop .i) 0) e)
 
 add-i : tie.Need-add-i Inv-loop μ-loop
 add-i c = search needs
@@ -48,7 +53,7 @@ loop-less c = search needs
 
 loop-again : tie.Need-loop-again Inv-loop μ-loop
 loop-again c =
-    let at-loop = c .before .before .before .before .before in
+    let at-loop = the-at-loop (c .before) in
     (at-loop .loop .inv .0, omega arith, below-more _ _ (at-loop .loop .inv .2) (sym (c .before .before .number-of .ensures) ∙ c .if2 .left))
 
 returns-3 : tie.Need-returns-3 Inv-loop μ-loop
