@@ -4,39 +4,12 @@
 // one that it cut off. A program is a loop over `next_line`.
 ghost use mathlib.Core.Bool.{true, false};
 ghost use mathlib.Core.Path.{_≡_};
-ghost use Prim.Native.Nat.{_≤_};
 ghost use Rattle.io.specs.Counts.{Counts};
+use input_lines::Gathered;
+use input_lines::Line;
+use input_lines::PIECE;
+use input_lines::Unread;
 use libc::STDIN_FILENO;
-
-const NEWLINE: u8 = b'\n';
-
-// How many bytes are read at once, at most.
-pub const PIECE: usize = 65536;
-
-// What is read and not yet taken: the bytes of the piece from `at` up to `end`. The input is open until a read gives nothing,
-// because the input has ended or because the read failed.
-pub struct Unread {
-    pub at: usize,
-    pub end: usize,
-    pub open: bool,
-    pub failed: bool,
-}
-
-// A line of the input: whether there is one, whether it was too long for its buffer, and how many of the buffer's bytes it is,
-// 0 if it is too long.
-pub struct Line {
-    pub found: bool,
-    pub long: bool,
-    pub held: usize,
-    pub unread: Unread,
-}
-
-// What a line has so far, counted as `lines::keep` does, and whether its newline has come.
-struct Gathered {
-    ended: bool,
-    held: usize,
-    unread: Unread,
-}
 
 // An input of which nothing is read.
 pub fn start() -> Unread
@@ -56,13 +29,13 @@ pub fn next_line(piece: &mut [u8; PIECE], line: &mut [u8], before: Unread) -> Li
     ensures { λ r. ⌜ (r .found ≡ true → r .unread .failed ≡ false) ⌝ }
 {
     let gathered = gather(piece, line, before);
-    told(line, gathered)
+    input_lines::told(line, gathered)
 }
 
 // Reads pieces until a newline has come, or the input's end. A proved loop has to end, and nothing says that an input does: so
 // the turns are counted down, from a number that no run uses up.
 fn gather(piece: &mut [u8; PIECE], line: &mut [u8], before: Unread) -> Gathered {
-    let mut gathered = take(piece, line, 0, before);
+    let mut gathered = input_lines::take(piece, line, 0, before);
     let mut turns = u64::MAX;
     while turns > 0 {
         if gathered.ended {
@@ -72,7 +45,7 @@ fn gather(piece: &mut [u8; PIECE], line: &mut [u8], before: Unread) -> Gathered 
             break;
         }
         let unread = read_piece(piece);
-        gathered = take(piece, line, gathered.held, unread);
+        gathered = input_lines::take(piece, line, gathered.held, unread);
         turns -= 1;
     }
     gathered
@@ -104,104 +77,5 @@ fn not_read() -> Unread {
         end: 0,
         open: again,
         failed: !again,
-    }
-}
-
-// Puts what is read behind the bytes that the line holds, up to its newline.
-fn take(piece: &[u8; PIECE], line: &mut [u8], before: usize, unread: Unread) -> Gathered {
-    let end = within(unread.end);
-    let room = line.len();
-    let mut held = before;
-    let mut at = unread.at;
-    while at < end {
-        let byte = piece[at];
-        at += 1;
-        if byte == NEWLINE {
-            return ended(held, at, end);
-        }
-        held = lines::keep(line, held, byte);
-        if held > room {
-            return pass(piece, held, at, unread);
-        }
-    }
-    not_ended(held, at, unread)
-}
-
-// Passes over the rest of a line that is too long, up to its newline.
-fn pass(piece: &[u8; PIECE], held: usize, from: usize, unread: Unread) -> Gathered {
-    let end = within(unread.end);
-    let mut at = from;
-    while at < end {
-        let byte = piece[at];
-        at += 1;
-        if byte == NEWLINE {
-            return ended(held, at, end);
-        }
-    }
-    not_ended(held, at, unread)
-}
-
-// A piece has no bytes past its end.
-fn within(end: usize) -> usize
-    ensures { λ r. ⌜ r ≤ 65536 ⌝ }
-{
-    if end < PIECE { end } else { PIECE }
-}
-
-// What a line has once its newline has come. The last read gave that byte, so it neither failed nor met the input's end.
-fn ended(held: usize, at: usize, end: usize) -> Gathered {
-    let unread = Unread {
-        at,
-        end,
-        open: true,
-        failed: false,
-    };
-    Gathered {
-        ended: true,
-        held,
-        unread,
-    }
-}
-
-// What it has if the piece has no newline for it.
-fn not_ended(held: usize, at: usize, before: Unread) -> Gathered {
-    let mut unread = before;
-    unread.at = at;
-    Gathered {
-        ended: false,
-        held,
-        unread,
-    }
-}
-
-// There is a line if its newline has come, or bytes with none after them. What a failed read cut off is none.
-fn told(line: &[u8], gathered: Gathered) -> Line
-    ensures { λ r. ⌜ Counts (r .held) (now (line .entry)) ⌝ }
-    ensures { λ r. ⌜ (r .found ≡ true → r .unread .failed ≡ false) ⌝ }
-{
-    let held = gathered.held;
-    let unread = gathered.unread;
-    if unread.failed {
-        return Line {
-            found: false,
-            long: false,
-            held: 0,
-            unread,
-        };
-    }
-    let found = gathered.ended || held > 0;
-    if held > line.len() {
-        return Line {
-            found,
-            long: true,
-            held: 0,
-            unread,
-        };
-    }
-    Line {
-        found,
-        long: false,
-        held,
-        unread,
     }
 }

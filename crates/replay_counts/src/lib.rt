@@ -2,7 +2,7 @@
 // the end a count: `cases` are those that were run, `bad` the lines that were not.
 ghost use mathlib.Core.Path.{_≡_};
 ghost use Rattle.replay_counts.specs.Counting.{more, Counted, Kept};
-use input::Unread;
+use input_lines::Unread;
 use replay_answers::Outcome;
 
 // How many lines have ended, and what they were; and whether a write failed, after which nothing is printed.

@@ -4,7 +4,7 @@
 // the Rust makes.
 ghost use lib.ListN.{length};
 ghost use Rattle.replay_program.specs.Contracts.{Inside};
-use input::PIECE;
+use input_lines::PIECE;
 use replay_answers::Outcome;
 use replay_outputs::BEFORE;
 use replay_outputs::BEFORE_COUNT;

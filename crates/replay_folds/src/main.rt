@@ -2,7 +2,7 @@
 // what a case is, `replay_outputs` what its answers are). The line above its function is its whole case.
 ghost use lib.ListN.{length};
 ghost use Rattle.replay_program.specs.Contracts.{Inside};
-use input::PIECE;
+use input_lines::PIECE;
 use replay_answers::Outcome;
 use replay_outputs::BEFORE;
 use replay_outputs::BEFORE_COUNT;

@@ -2,7 +2,7 @@
 // what its answers are). Its case is the line above `process`.
 ghost use lib.ListN.{length};
 ghost use Rattle.replay_program.specs.Contracts.{Inside};
-use input::PIECE;
+use input_lines::PIECE;
 use replay_answers::Outcome;
 use replay_process_call::MARKS;
 use replay_process_call::POOL;

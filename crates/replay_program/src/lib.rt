@@ -10,9 +10,9 @@ ghost use lib.ListN.{length};
 ghost use Rattle.io.specs.Counts.{Counts};
 ghost use Rattle.replay_program.specs.Comments.{skips};
 ghost use Rattle.replay_program.specs.Contracts.{Inside, noCase};
-use input::Line;
-use input::PIECE;
-use input::Unread;
+use input_lines::Line;
+use input_lines::PIECE;
+use input_lines::Unread;
 use replay_cases::Part;
 
 const COMMENT: u8 = b'#';

@@ -3,7 +3,7 @@
 // function, an arm of `replay`, and its cases, which the comparison with the Rust makes.
 ghost use lib.ListN.{length};
 ghost use Rattle.replay_program.specs.Contracts.{Inside};
-use input::PIECE;
+use input_lines::PIECE;
 use record::Row;
 use replay_answers::Outcome;
 use replay_program::Case;

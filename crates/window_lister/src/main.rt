@@ -7,9 +7,9 @@
 ghost use mathlib.Core.Path.{_≡_};
 ghost use Rattle.io.specs.Counts.{Counts};
 ghost use Rattle.listing.specs.Contracts.{LineRoom, ReadyOutput};
-use input::Line;
-use input::PIECE;
-use input::Unread;
+use input_lines::Line;
+use input_lines::PIECE;
+use input_lines::Unread;
 use listing_request::Asked;
 use listing_request::Request;
 

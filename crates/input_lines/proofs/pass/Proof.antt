@@ -1,8 +1,8 @@
 -- `pass` is safe and ends: the measure is what is left of the piece. Assumes nothing.
 use Prim.Native.Nat.{_-_, _≤_}
 use borrow.Author.Needs.{needs}
-use Rattle.input.proofs.pass.Statement.{statement}
-use Rattle.input.proofs.pass.Tie as tie
+use Rattle.input_lines.proofs.pass.Statement.{statement}
+use Rattle.input_lines.proofs.pass.Tie as tie
 
 abbrev Inv-loop : tie.InvT-loop
 Inv-loop piece held from unread end at₀ at = at₀ ≤ at

@@ -3,8 +3,8 @@ use mathlib.Core.Path.{_≡_}
 use Prim.Native.Nat.{_-_}
 use lib.ListN.{length}
 use borrow.Author.Needs.{needs}
-use Rattle.input.proofs.take.Statement.{statement}
-use Rattle.input.proofs.take.Tie as tie
+use Rattle.input_lines.proofs.take.Statement.{statement}
+use Rattle.input_lines.proofs.take.Tie as tie
 
 abbrev Inv-loop : tie.InvT-loop
 Inv-loop piece line₀ before unread end room held₀ at₀ line held at = length line ≡ length line₀

@@ -2,8 +2,8 @@
 use mathlib.Core.Path.{sym}
 use lib.Seq.{length-take-le}
 use borrow.Author.Needs.{needs}
-use Rattle.input.proofs.told.Statement.{statement}
-use Rattle.input.proofs.told.Tie as tie
+use Rattle.input_lines.proofs.told.Statement.{statement}
+use Rattle.input_lines.proofs.told.Tie as tie
 
 returns : tie.Need-returns
 returns c = (search needs, λ e. cc)
