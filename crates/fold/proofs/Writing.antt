@@ -17,7 +17,7 @@ use Rattle.join_trees.specs.Join.{fold}
 use Rattle.join_trees.specs.Outcomes.{foldOutcome}
 use Rattle.join_trees.proofs.Folds.{fold-well}
 use Rattle.join_trees.proofs.Outcomes.{fold-of, fold-done}
-use Rattle.fold_write.specs.Contracts.{AskFold}
+use Rattle.fold_each.specs.Contracts.{AskFold}
 use Rattle.fold_check.specs.Contracts.{FoldedBy}
 
 module _ {xs rs : List ℕ} {g : Bool} {out out′ working working′ : List ℕ} {n m : ℕ} (d : FoldedBy g xs rs out out′ working working′ n m) where

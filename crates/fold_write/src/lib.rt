@@ -1,6 +1,7 @@
 // The fold of a batch, written: step by step into the output, a run of encodings without windows in one step where the output has
 // windows, and what refusal 6 leaves (document 01, `merge`).
-ghost use Rattle.fold_write.specs.Contracts.{AskFold, WritesFold, ZeroedAll};
+ghost use Rattle.fold_each.specs.Contracts.{AskFold, WritesFold};
+ghost use Rattle.fold_write.specs.Contracts.{ZeroedAll};
 ghost use Rattle.record.specs.Working.{Zeroed};
 use record::Spot;
 
