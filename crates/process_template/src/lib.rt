@@ -10,7 +10,7 @@ use record::Spot;
 use template_known::Validity;
 use template_walk::SequencesAnswer;
 
-// The text of the template that is used: the pair's where there is a second encoding.
+// The text of the template that is used, which is the pair's where there is a second encoding.
 pub fn text_for<'a>(
     second: bool,
     single_set: bool,

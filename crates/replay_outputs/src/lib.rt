@@ -20,7 +20,7 @@ pub const BEFORE: u32 = 7;
 pub const BEFORE_COUNT: usize = 7;
 
 // The number at a place of a case as a length, at most as much as is lent.
-pub fn length_at(case: &[u32], at: usize, lent: &[u32]) -> usize
+fn length_at(case: &[u32], at: usize, lent: &[u32]) -> usize
     ensures { λ r. ⌜ LengthAt (now (case .entry)) at (now (lent .entry)) r ⌝ }
 {
     let length = lists::wide(replay_cases::number_at(case, at));
@@ -44,7 +44,7 @@ pub fn rows_lent(answers: &[u32], lent: &[u32]) -> usize
 
 // Whether the answers are the refusal, the counts and what was left in the output. Answers that do not end with the two lists
 // are not the same.
-pub fn answered(
+fn answered(
     refusal: u32,
     counts: &[usize; 2],
     nodes: &[u32],
