@@ -4,8 +4,9 @@ use mathlib.Core.Path.{_≡_, refl, subst}
 use Prim.Native.Nat.{ℕ, _+_, _*_, _-_, _≤_, _<_, max}
 use native.Mathlib.Omega.{arith}
 use mathlib.Core.List.{List, [], _∷_}
-use lib.Bits.{bitOr, or-add-and, and-le-l, and-le-r}
-use lib.ListN.{length, getD}
+use lib.Bits.{bitOr}
+use lib.ListN.{getD}
+use Rattle.lists.proofs.Bits.{left-within, right-within}
 use Rattle.record.specs.Tree.{Row}
 use Rattle.record.specs.Flat.{rowWidth}
 use Rattle.join_reach.specs.Reach.{largestOffset}
@@ -20,12 +21,6 @@ pub record Bounded (rows : List ℕ) (R : List Row) (left row starts ends : ℕ)
 
 pub bounded-start : {rows : List ℕ} {j count : ℕ} {R : List Row} → RowsFrom rows j count R → Bounded rows R count j 0 0
 bounded-start {rows} {j} {count} {R} h = record { to-come = R; from = h; all = omega arith }
-
-left-within : (a b : ℕ) → a ≤ bitOr a b
-left-within a b = omega (arith, or-add-and a b, and-le-r a b)
-
-right-within : (a b : ℕ) → b ≤ bitOr a b
-right-within a b = omega (arith, or-add-and a b, and-le-l a b)
 
 -- one row more, whose offsets the new bounds are not below
 pub bounded-turn : {rows : List ℕ} {R : List Row} {left row starts ends : ℕ} (s e : ℕ) → Bounded rows R left row starts ends → 0 < left → (starts ≤ s) × (ends ≤ e) → getD rows (row + 7) 0 ≤ s → getD rows (row + 8) 0 ≤ e → Bounded rows R (left - 1) (row + rowWidth) s e

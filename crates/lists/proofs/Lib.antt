@@ -5,3 +5,4 @@ pub mod Writing
 pub mod Parts
 pub mod All
 pub mod Written
+pub mod Bits

@@ -9,18 +9,13 @@ use native.Mathlib.Nat.{eq-or-lt-of-le}
 use borrow.Author.Count.{below-more}
 use borrow.Author.Tests.{leb-true, leb-false}
 use mathlib.Core.List.{List}
-use lib.Bits.{bitOr, or-lt, or-mod, or-add-and, and-le-l, and-le-r}
+use lib.Bits.{bitOr, or-lt, or-mod}
 use lib.Dec.{leb}
 use lib.ListN.{length, getD}
 use Rattle.record.specs.Flat.{rowWidth}
 use Rattle.lists.specs.Lists.{Decides}
+use Rattle.lists.proofs.Bits.{left-within, right-within}
 use Rattle.record_fields.specs.Contracts.{RowOk, RowAt, RowsFine, u32Count, markedWord, LowestBit}
-
-left-within : (a b : ℕ) → a ≤ bitOr a b
-left-within a b = omega (arith, or-add-and a b, and-le-r a b)
-
-right-within : (a b : ℕ) → b ≤ bitOr a b
-right-within a b = omega (arith, or-add-and a b, and-le-l a b)
 
 both-one : (a b : ℕ) → a ≤ 1 → b ≤ 1 → bitOr a b ≤ 1
 both-one a b p q = omega (arith, or-lt 1 a b (omega arith) (omega arith))
