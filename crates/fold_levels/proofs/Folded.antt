@@ -18,7 +18,7 @@ use Rattle.join_trees.proofs.Sizes.{fold-no-less, no-more-fits}
 use Rattle.join_levels.specs.declared.Profile.{Profile}
 use Rattle.join_levels.specs.declared.Answer.{Answer}
 use Rattle.join_levels.specs.Levels.{weightAt, countedOnce, ProfileOf, Profiled, Measures}
-use Rattle.join_table.specs.Table.{levelCount, at, sumBelow}
+use Rattle.join_table.specs.Table.{levelCount, at}
 use Rattle.fold_levels.specs.Contracts.{HoldsNodes}
 use Rattle.join_levels_stored.specs.Contracts.{EncodingAt}
 use Rattle.join_table.proofs.Passes.{zeros}

@@ -1,9 +1,8 @@
 -- The two errors that pass, and that no other does. A signed number is held by its bits. Assumes nothing.
 use mathlib.Core.Path.{_≡_, refl, sym, ap, _∙_}
-use mathlib.Core.Bool.{Bool, true, false, cond}
+use mathlib.Core.Bool.{false}
 use Prim.Native.Nat.{ℕ}
 use lib.IntN.{ℤ, pos, negsuc}
-use lib.Dec.{eqb}
 use borrow.Author.Tests.{ne-eqb}
 use mir.Facts.{toZ-ofZ}
 use mir.Syntax.{w32}

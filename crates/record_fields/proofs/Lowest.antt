@@ -1,10 +1,10 @@
 -- The lowest bit of a number, found by the number's bits that its negative has too: at most 1 exactly if the number is odd
 -- or 0. Assumes nothing.
 use mathlib.Core.Path.{_≡_, refl}
-use Prim.Native.Nat.{ℕ, zero, suc, _+_, _*_, _-_, _/_, _%_, _^_, _≤_, _<_, min}
+use Prim.Native.Nat.{ℕ, zero, suc, _+_, _-_, _/_, _%_, _^_, _≤_, _<_, min}
 use native.Mathlib.Omega.{arith}
 use native.Mathlib.Nat.{pow-suc}
-use lib.Bits.{bitAnd, bitOr, and-step, and-le-l, or-lt, or-add-and}
+use lib.Bits.{bitAnd, and-step, and-le-l, or-lt, or-add-and}
 use Rattle.record_fields.specs.Contracts.{LowestBit}
 
 -- two numbers that fill k bits have no bit in common

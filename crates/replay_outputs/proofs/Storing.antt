@@ -1,5 +1,5 @@
 -- What is stored, from what was compared. Assumes nothing.
-use mathlib.Core.Path.{_≡_, refl, sym, ap, subst, _∙_}
+use mathlib.Core.Path.{_≡_, refl, ap, subst, _∙_}
 use mathlib.Core.Bool.{Bool, true, false}
 use Prim.Native.Nat.{ℕ}
 use native.Mathlib.Omega.{arith}
@@ -7,7 +7,6 @@ use mathlib.Core.List.{List}
 use lib.ListN.{length, take}
 use Rattle.lists.specs.Lists.{Decides}
 use Rattle.replay_answers.specs.Contracts.{comparison}
-use Rattle.replay_answers.specs.declared.Outcome.{Outcome}
 use Rattle.replay_answers.specs.declared.Outcome.the-variants.{Same, Differs, Bad}
 use Rattle.replay_cases.specs.Case.{partAt, lastAt}
 use Rattle.replay_cases.specs.declared.Part.{Part}

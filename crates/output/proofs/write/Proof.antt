@@ -1,7 +1,6 @@
 -- `write` takes at most all of the bytes, and ends: the measure is the number of turns that are left. Assumes nothing.
 use Prim.Native.Nat.{_≤_}
-use lib.ListN.{length, length-drop}
-use native.Mathlib.Omega.{arith}
+use lib.ListN.{length}
 use borrow.Author.Needs.{needs}
 use Rattle.output.proofs.write.Statement.{statement}
 use Rattle.output.proofs.write.Tie as tie

@@ -1,5 +1,4 @@
 -- `rows_lent` reads the length of the second list. Assumes nothing.
-use mathlib.Core.Path.{ap}
 use borrow.Author.Needs.{needs}
 use Rattle.replay_outputs.proofs.Lengths.{length-moved}
 use Rattle.replay_outputs.proofs.rows_lent.Statement.{statement}

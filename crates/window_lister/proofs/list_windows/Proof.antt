@@ -1,5 +1,5 @@
 -- `list_windows` ends: each block has a window or more, so fewer are left. The buffer keeps its length. Assumes nothing.
-use mathlib.Core.Path.{_≡_, refl, _∙_}
+use mathlib.Core.Path.{_≡_, _∙_}
 use Prim.Native.Nat.{_-_}
 use native.Mathlib.Omega.{arith}
 use lib.ListN.{length}
