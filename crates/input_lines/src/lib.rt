@@ -4,6 +4,7 @@ ghost use mathlib.Core.Bool.{true, false};
 ghost use mathlib.Core.Path.{_≡_};
 ghost use Prim.Native.Nat.{_≤_};
 ghost use Rattle.io.specs.Counts.{Counts};
+ghost use Rattle.input_lines.specs.Contracts.{Takes, Ended, NotEnded};
 
 const NEWLINE: u8 = b'\n';
 
@@ -36,7 +37,9 @@ pub struct Gathered {
 }
 
 // Puts what is read behind the bytes that the line holds, up to its newline.
-pub fn take(piece: &[u8; PIECE], line: &mut [u8], before: usize, unread: Unread) -> Gathered {
+pub fn take(piece: &[u8; PIECE], line: &mut [u8], before: usize, unread: Unread) -> Gathered
+    ensures { λ r. ⌜ Takes (now (piece .entry)) (unread .at) unread r ⌝ }
+{
     let end = within(unread.end);
     let room = line.len();
     let mut held = before;
@@ -56,7 +59,9 @@ pub fn take(piece: &[u8; PIECE], line: &mut [u8], before: usize, unread: Unread)
 }
 
 // Passes over the rest of a line that is too long, up to its newline.
-fn pass(piece: &[u8; PIECE], held: usize, from: usize, unread: Unread) -> Gathered {
+fn pass(piece: &[u8; PIECE], held: usize, from: usize, unread: Unread) -> Gathered
+    ensures { λ r. ⌜ Takes (now (piece .entry)) from unread r ⌝ }
+{
     let end = within(unread.end);
     let mut at = from;
     while at < end {
@@ -77,7 +82,9 @@ fn within(end: usize) -> usize
 }
 
 // What a line has once its newline has come. The last read gave that byte, so it neither failed nor met the input's end.
-fn ended(held: usize, at: usize, end: usize) -> Gathered {
+fn ended(held: usize, at: usize, end: usize) -> Gathered
+    ensures { λ r. ⌜ Ended at r ⌝ }
+{
     let unread = Unread {
         at,
         end,
@@ -92,7 +99,9 @@ fn ended(held: usize, at: usize, end: usize) -> Gathered {
 }
 
 // What it has if the piece has no newline for it.
-fn not_ended(held: usize, at: usize, before: Unread) -> Gathered {
+fn not_ended(held: usize, at: usize, before: Unread) -> Gathered
+    ensures { λ r. ⌜ NotEnded at before r ⌝ }
+{
     let mut unread = before;
     unread.at = at;
     Gathered {

@@ -1,6 +1,7 @@
--- `pass` is safe and ends: the measure is what is left of the piece. Assumes nothing.
+-- `pass` goes on to the newline or to the end of the piece: the measure is what is left of it. Assumes nothing.
 use Prim.Native.Nat.{_-_, _≤_}
 use borrow.Author.Needs.{needs}
+use Rattle.input_lines.proofs.Taking.{takes-ended, takes-open}
 use Rattle.input_lines.proofs.pass.Statement.{statement}
 use Rattle.input_lines.proofs.pass.Tie as tie
 
@@ -26,7 +27,10 @@ ended-requires : tie.Need-ended-requires Inv-loop μ-loop
 ended-requires c κs = search needs
 
 returns : tie.Need-returns Inv-loop μ-loop
-returns c = search needs
+returns c =
+    let l = c .before .before .before .before in
+    let v = l .before .before .args in
+    takes-ended (v .piece .now) (v .from) (l .loop .at) (v .unread) (c .ended .result) (l .loop .inv) (c .before .if1 .taken) (c .ended .ensures)
 
 loop-less : tie.Need-loop-less Inv-loop μ-loop
 loop-less c = search needs
@@ -38,7 +42,10 @@ not-ended-requires : tie.Need-not-ended-requires Inv-loop μ-loop
 not-ended-requires c κs = search needs
 
 returns-2 : tie.Need-returns-2 Inv-loop μ-loop
-returns-2 c = search needs
+returns-2 c =
+    let l = c .before .before in
+    let v = l .before .before .args in
+    takes-open (v .piece .now) (v .from) (l .loop .at) (v .unread) (c .not-ended .result) (l .loop .inv) (c .not-ended .ensures)
 
 pub pass-spec : {M : Type 1} → statement M
 pass-spec =
