@@ -19,7 +19,7 @@ module _ (refusal : ℕ) (lent case : List ℕ) (at : ℕ) (long : length case �
   pub other : at < length case → (getD case at 0 ≡ refusal → ⊥) → Told Differs (refusal ∷ lent) case at
   other here differs = (long, λ e. differs (cc (first here)))
 
-  decided : (same : Bool) → at < length case → getD case at 0 ≡ refusal → Decides same (lent ≡ drop (at + 1) case)
+  pub decided : (same : Bool) → at < length case → getD case at 0 ≡ refusal → Decides same (lent ≡ drop (at + 1) case)
       → Told (comparison same) (refusal ∷ lent) case at
   decided true here e same = (long, cc (first here))
   decided false here e differ = (long, λ all. differ (cc (first here)))

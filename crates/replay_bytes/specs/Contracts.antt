@@ -30,9 +30,10 @@ pub record BytesAt (case : List ℕ) (at : ℕ) (r : Part) (stored : List ℕ) :
   pub held : Within (r .end - r .start) stored
   pub put : take (r .end - r .start) stored ≡ take (r .end - r .start) (drop (r .start) case)
 
--- What putting a text, or two, promises: they lie within what was lent for them.
-pub record TextHeld (r : Text) (bytes : List ℕ) : Type 0 where
+-- What putting a text, or two, promises: they lie within what was lent for them; one that could be put stands there.
+pub record TextHeld (list : List ℕ) (r : Text) (bytes : List ℕ) : Type 0 where
   pub held : Within (r .count) bytes
+  pub put : r .good ≡ true → take (r .count) bytes ≡ list
 
 pub record TextsHeld (r : Texts) (first second : List ℕ) : Type 0 where
   pub first-held : Within (r .first) first

@@ -70,7 +70,7 @@ pub struct Text {
 
 // A list of a case, put at the start of what is lent for it.
 pub fn text_of(list: &[u32], bytes: &mut [u8]) -> Text
-    ensures { λ r. ⌜ TextHeld r (now (bytes .exit)) ⌝ }
+    ensures { λ r. ⌜ TextHeld (now (list .entry)) r (now (bytes .exit)) ⌝ }
 {
     if put_bytes(list, bytes) {
         return Text {

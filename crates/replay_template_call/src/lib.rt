@@ -1,5 +1,8 @@
 // The call of `read_template` that a stored case asks for, through the C interface, and whether it gave what is stored, for the
 // program `replay_templates`. `rest` is what follows the two lists that a case begins with.
+ghost use mathlib.Core.List.{_∷_};
+ghost use mathlib.Core.Path.{_≡_};
+ghost use Rattle.replay_template_call.specs.Contracts.{StoredPieces, readingOf};
 use replay_answers::Outcome;
 use template_text::Template;
 
@@ -12,7 +15,9 @@ const BEFORE: u32 = 7;
 const BEFORE_COUNT: usize = 7;
 
 // `23 text nothing refusal count pieces`
-pub fn read_template(text: &[u32], nothing: &[u32], rest: &[u32]) -> Outcome {
+pub fn read_template(text: &[u32], nothing: &[u32], rest: &[u32]) -> Outcome
+    ensures { λ r. ⌜ (r ≡ Outcome.Same → StoredPieces (readingOf (now (text .entry)) .refusal) (readingOf (now (text .entry)) .numbers) (now (rest .entry))) ⌝ }
+{
     if nothing.len() != 0 {
         return Outcome::Bad;
     }
@@ -20,7 +25,9 @@ pub fn read_template(text: &[u32], nothing: &[u32], rest: &[u32]) -> Outcome {
     text_read(text, rest, &mut bytes)
 }
 
-fn text_read(text: &[u32], rest: &[u32], bytes: &mut [u8]) -> Outcome {
+fn text_read(text: &[u32], rest: &[u32], bytes: &mut [u8]) -> Outcome
+    ensures { λ r. ⌜ (r ≡ Outcome.Same → StoredPieces (readingOf (now (text .entry)) .refusal) (readingOf (now (text .entry)) .numbers) (now (rest .entry))) ⌝ }
+{
     let held = replay_bytes::text_of(text, bytes);
     if !held.good {
         return Outcome::Bad;
@@ -38,7 +45,9 @@ fn pieces_stored(
     count: usize,
     pieces: &[u32; Template::PIECES],
     rest: &[u32],
-) -> Outcome {
+) -> Outcome
+    ensures { λ r. ⌜ (r ≡ Outcome.Same → StoredPieces refusal (count ∷ now (pieces .entry)) (now (rest .entry))) ⌝ }
+{
     let stored = replay_cases::last_list(rest, 2);
     let start = stored.start;
     let end = stored.end;
