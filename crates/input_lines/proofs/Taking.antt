@@ -7,10 +7,10 @@ use native.Mathlib.Omega.{arith}
 use lib.ListN.{getD}
 use Rattle.input_lines.specs.declared.Unread.{Unread}
 use Rattle.input_lines.specs.declared.Gathered.{Gathered}
-use Rattle.input_lines.specs.Contracts.{newline, Takes, Ended, NotEnded}
+use Rattle.input_lines.specs.Contracts.{newline, TakesBytes, Ended, NotEnded}
 
 -- after its newline
-pub takes-ended : (piece : List ℕ) (from at : ℕ) (before : Unread) (r : Gathered) → from ≤ at → getD piece at 0 ≡ newline → Ended (at + 1) r → Takes piece from before r
+pub takes-ended : (piece : List ℕ) (from at : ℕ) (before : Unread) (r : Gathered) → from ≤ at → getD piece at 0 ≡ newline → Ended (at + 1) r → TakesBytes piece from before r
 takes-ended piece from at before r h e k =
     let last : r .unread .at - 1 ≡ at = omega (arith, k .at-is) in
     record {
@@ -21,7 +21,7 @@ takes-ended piece from at before r h e k =
     }
 
 -- at the end of the piece
-pub takes-open : (piece : List ℕ) (from at : ℕ) (before : Unread) (r : Gathered) → from ≤ at → NotEnded at before r → Takes piece from before r
+pub takes-open : (piece : List ℕ) (from at : ℕ) (before : Unread) (r : Gathered) → from ≤ at → NotEnded at before r → TakesBytes piece from before r
 takes-open piece from at before r h k =
     record {
       onward = omega (arith, k .at-is);
@@ -31,5 +31,5 @@ takes-open piece from at before r h k =
     }
 
 -- from a later place, so from an earlier one
-pub takes-later : (piece : List ℕ) (from at : ℕ) (before : Unread) (r : Gathered) → from ≤ at → Takes piece at before r → Takes piece from before r
+pub takes-later : (piece : List ℕ) (from at : ℕ) (before : Unread) (r : Gathered) → from ≤ at → TakesBytes piece at before r → TakesBytes piece from before r
 takes-later piece from at before r h k = record { onward = omega (arith, k .onward); newline-taken = k .newline-taken; sound = k .sound; input-same = k .input-same }

@@ -14,7 +14,7 @@ newline = 10
 
 -- It goes on from a place of the piece. A line that ended has its newline just before what is left, and no read has failed;
 -- of one that did not end the input is as it was.
-pub record Takes (piece : List ℕ) (from : ℕ) (before : Unread) (r : Gathered) : Type 0 where
+pub record TakesBytes (piece : List ℕ) (from : ℕ) (before : Unread) (r : Gathered) : Type 0 where
   pub onward : from ≤ r .unread .at
   pub newline-taken : r .ended ≡ true → getD piece (r .unread .at - 1) 0 ≡ newline
   pub sound : r .ended ≡ true → r .unread .failed ≡ false

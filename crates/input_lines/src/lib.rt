@@ -4,7 +4,7 @@ ghost use mathlib.Core.Bool.{true, false};
 ghost use mathlib.Core.Path.{_≡_};
 ghost use Prim.Native.Nat.{_≤_};
 ghost use Rattle.io.specs.Counts.{Counts};
-ghost use Rattle.input_lines.specs.Contracts.{Takes, Ended, NotEnded};
+ghost use Rattle.input_lines.specs.Contracts.{TakesBytes, Ended, NotEnded};
 
 const NEWLINE: u8 = b'\n';
 
@@ -38,7 +38,7 @@ pub struct Gathered {
 
 // Puts what is read behind the bytes that the line holds, up to its newline.
 pub fn take(piece: &[u8; PIECE], line: &mut [u8], before: usize, unread: Unread) -> Gathered
-    ensures { λ r. ⌜ Takes (now (piece .entry)) (unread .at) unread r ⌝ }
+    ensures { λ r. ⌜ TakesBytes (now (piece .entry)) (unread .at) unread r ⌝ }
 {
     let end = within(unread.end);
     let room = line.len();
@@ -60,7 +60,7 @@ pub fn take(piece: &[u8; PIECE], line: &mut [u8], before: usize, unread: Unread)
 
 // Passes over the rest of a line that is too long, up to its newline.
 fn pass(piece: &[u8; PIECE], held: usize, from: usize, unread: Unread) -> Gathered
-    ensures { λ r. ⌜ Takes (now (piece .entry)) from unread r ⌝ }
+    ensures { λ r. ⌜ TakesBytes (now (piece .entry)) from unread r ⌝ }
 {
     let end = within(unread.end);
     let mut at = from;

@@ -11,7 +11,7 @@ use native.Mathlib.Omega.{arith}
 use Rattle.lines.specs.Decimal.{numberAt}
 use Rattle.lines.specs.declared.Number.the-variants.{Bad, Read}
 use Rattle.lines.proofs.Moves.{number-moves}
-use Rattle.replay_cases.specs.Case.{Case, unreadable, numbers, space, ledCase, rest, caseFrom, caseOf, fitted}
+use Rattle.replay_cases.specs.Case.{Case, unreadable, numbers, separator, ledCase, rest, caseFrom, caseOf, fitted}
 use Rattle.replay_cases.specs.Contracts.{GatheredCase}
 
 -- the numbers so far, and then those of a case
@@ -107,10 +107,10 @@ module _ (line : List ℕ) (room : ℕ) (stored : List ℕ) (at count : ℕ) (g 
             whole = sym length-kept;
           }
 
-      pub ends-other : next < length line → (getD line next 0 ≡ space → ⊥) → unreadable ≡ fitted room (caseOf line)
-      ends-other more other = rw (with-it, lt-leb (length line) next more, ne-eqb (getD line next 0) space other)
+      pub ends-other : next < length line → (getD line next 0 ≡ separator → ⊥) → unreadable ≡ fitted room (caseOf line)
+      ends-other more other = rw (with-it, lt-leb (length line) next more, ne-eqb (getD line next 0) separator other)
 
-      pub goes-on : next < length line → getD line next 0 ≡ space → Gathering line room (set stored count v) (next + 1) (count + 1)
+      pub goes-on : next < length line → getD line next 0 ≡ separator → Gathering line room (set stored count v) (next + 1) (count + 1)
       goes-on more blank =
           record {
             same = simp length-set (g .same);
@@ -118,5 +118,5 @@ module _ (line : List ℕ) (room : ℕ) (stored : List ℕ) (at count : ℕ) (g 
             held = simp length-set (omega arith);
             most = g .most - 1;
             enough = omega (arith, g .enough, number-moves line at v next e);
-            whole = with-it ∙ rw (lt-leb (length line) next more, eq-eqb (getD line next 0) space blank);
+            whole = with-it ∙ rw (lt-leb (length line) next more, eq-eqb (getD line next 0) separator blank);
           }

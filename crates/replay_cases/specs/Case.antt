@@ -11,9 +11,9 @@ use Rattle.lines.specs.declared.Number.the-variants.{Bad, Read}
 use Rattle.replay_cases.specs.declared.Numbers.{Numbers}
 use Rattle.replay_cases.specs.declared.Part.{Part}
 
--- the byte of a space
-abbrev pub space : ℕ
-space = 32
+-- what stands between two numbers of a line: the byte of a space
+abbrev pub separator : ℕ
+separator = 32
 
 -- what a line holds: numbers, unless it cannot be read
 pub data Case : Type 0 where
@@ -33,7 +33,7 @@ ledCase n (numbers ns) = numbers (n ∷ ns)
 abbrev pub rest : List ℕ → ℕ → (ℕ → Case) → Case
 rest line next case =
     pickCase (leb (length line) next) (numbers [])
-    (pickCase (eqb (getD line next 0) space) (case (next + 1)) unreadable)
+    (pickCase (eqb (getD line next 0) separator) (case (next + 1)) unreadable)
 
 abbrev pub from : List ℕ → Number → (ℕ → Case) → Case
 from line Bad case = unreadable
