@@ -86,7 +86,7 @@ pub struct Spot {
     pub row: usize,
 }
 
-// Why an operation does not do its work, in the order of document 01's numbers.
+// Why an operation does not do its work, in the order of the numbers of documents 01 and 02.
 pub enum Refusal {
     MalformedRecord,
     NoRoom,
@@ -103,10 +103,13 @@ pub enum Refusal {
     SequenceIdAboveLast,
     TextOutsidePool,
     MalformedTable,
+    NotText,
+    OffsetPastEnd,
+    OffsetInsideCharacter,
 }
 
 impl Refusal {
-    // Document 01's number.
+    // The number of document 01 or 02.
     pub fn number(self) -> u32
         ensures { λ r. ⌜ r ≡ numberOf self ⌝ }
     {
@@ -126,6 +129,9 @@ impl Refusal {
             Refusal::SequenceIdAboveLast => 13,
             Refusal::TextOutsidePool => 14,
             Refusal::MalformedTable => 15,
+            Refusal::NotText => 16,
+            Refusal::OffsetPastEnd => 17,
+            Refusal::OffsetInsideCharacter => 18,
         }
     }
 }
