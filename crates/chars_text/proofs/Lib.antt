@@ -1,0 +1,10 @@
+pub mod Rows
+pub mod Grammar
+pub mod Led
+pub mod Reading
+pub mod Starts
+pub mod Places
+pub mod Texts
+pub mod Sized
+pub mod Octets
+pub mod Plain
