@@ -1,0 +1,155 @@
+-- Passing over a text: over bytes that are characters by themselves, over one character, over a block.
+-- Assumes nothing.
+use mathlib.Core.Path.{_≡_, refl, ap, sym, _∙_}
+use mathlib.Core.Bool.{Bool, true, false, cond}
+use Prim.Native.Nat.{ℕ, zero, suc, _+_, _-_, _≤_, _<_}
+use native.Mathlib.Numerals.{add-one}
+use native.Mathlib.Omega.{arith}
+use mathlib.Core.List.{List, [], _∷_, flatten}
+use lib.Dec.{leb}
+use lib.ListN.{length, getD, take, drop, length-drop, drop-of-length-le}
+use lib.Seq.{drop-cons, drop-drop}
+use borrow.Author.Tests.{leb-false, le-leb, lt-leb}
+use Rattle.chars_text.specs.Utf8.{character}
+use Rattle.chars_text.specs.Characters.{charactersIn, wellFormed}
+use Rattle.chars_text.proofs.Rows.{one}
+use Rattle.chars_text.proofs.Led.{character-inside}
+use Rattle.chars_text.proofs.Reading.{well-formed-step, well-formed-none}
+use Rattle.chars_count.specs.Contracts.{BlockEnd}
+use Rattle.chars_check.specs.Contracts.{longs, Walked, PlainSkipped, Passed}
+
+-- ---- Bytes that are characters by themselves
+
+-- The count of the bytes passed and of the rest is that of all.
+pub record Counting (block : List ℕ) (i count : ℕ) : Type 0 where
+  pub inside : i ≤ length block
+  pub few : count ≤ i
+  pub all : count + longs (drop i block) ≡ longs block
+
+pub counting-start : (block : List ℕ) → Counting block 0 0
+counting-start block = record { inside = omega arith; few = omega arith; all = omega arith }
+
+module _ {block : List ℕ} {i count : ℕ} (k : Counting block i count) where
+  pub counting-more : i < length block → 0x80 ≤ getD block i 0 → Counting block (i + 1) (count + 1)
+  unfolding longs
+  counting-more h e =
+      let step : longs (drop i block) ≡ suc (longs (drop (i + 1) block)) = rw (add-one, drop-cons block i 0 h, longs, le-leb 0x80 (getD block i 0) e) in
+      record { inside = omega arith; few = omega (arith, k .few); all = omega (arith, k .all, step) }
+
+  pub counting-next : i < length block → getD block i 0 < 0x80 → Counting block (i + 1) count
+  unfolding longs
+  counting-next h e =
+      let step : longs (drop i block) ≡ longs (drop (i + 1) block) = rw (add-one, drop-cons block i 0 h, longs, lt-leb 0x80 (getD block i 0) e) in
+      record { inside = omega arith; few = omega (arith, k .few); all = omega (arith, k .all, step) }
+
+  pub counting-end : length block ≤ i → count ≡ longs block
+  unfolding longs
+  counting-end h =
+      let rest : longs (drop i block) ≡ 0 = rw (drop-of-length-le block h) in
+      omega (arith, k .all, rest)
+
+-- none of them is part of a longer character
+pub longs-none : (n : ℕ) (text : List ℕ) → n ≤ length text → longs (take n text) ≡ 0 → wellFormed text ≡ wellFormed (drop n text)
+unfolding longs
+longs-none zero text h e = refl
+longs-none (suc n) [] h e = absurd (omega arith)
+longs-none (suc n) (b ∷ text) h e = go (leb 0x80 b) refl e (longs-none n text (omega arith))
+  where
+    go : (t : Bool) → leb 0x80 b ≡ t → cond t (suc (longs (take n text))) (longs (take n text)) ≡ 0 → (longs (take n text) ≡ 0 → wellFormed text ≡ wellFormed (drop n text))
+        → wellFormed (b ∷ text) ≡ wellFormed (drop n text)
+    go true t e after = absurd (omega (arith, e))
+    go false t e after = well-formed-step (b ∷ text) 0 (one b text (leb-false 0x80 b t)) ∙ after e
+
+-- ---- One character after another
+
+-- The text was passed up to here.
+pub record Walking (text : List ℕ) (from at : ℕ) : Type 0 where
+  pub onward : from ≤ at
+  pub inside : at ≤ length text
+  pub same : wellFormed (drop from text) ≡ wellFormed (drop at text)
+
+pub walking-start : (text : List ℕ) (from : ℕ) → from ≤ length text → Walking text from from
+walking-start text from h = record { onward = omega arith; inside = h; same = refl }
+
+module _ {text : List ℕ} {from at : ℕ} (w : Walking text from at) where
+  pub walking-size : (size : ℕ) → size ≡ character (drop at text) → at + size ≤ length text
+  walking-size size e = omega (arith, e, character-inside (drop at text), length-drop at text, w .inside)
+
+  pub walking-more : (size : ℕ) → size ≡ character (drop at text) → (size ≡ 0 → ⊥) → Walking text from (at + size)
+  walking-more zero e some = absurd (some refl)
+  walking-more (suc n) e some =
+      record {
+        onward = omega (arith, w .onward);
+        inside = walking-size (suc n) e;
+        same = w .same ∙ well-formed-step (drop at text) n (sym e) ∙ ap wellFormed (drop-drop (suc n) at text);
+      }
+
+  pub walking-stop : (to size : ℕ) → size ≡ character (drop at text) → size ≡ 0 → Walked text from to at
+  walking-stop to size e none = record { onward = w .onward; inside = w .inside; same = w .same; stopped = λ h. sym e ∙ none }
+
+  pub walking-there : (to : ℕ) → to ≤ at → Walked text from to at
+  walking-there to h = record { onward = w .onward; inside = w .inside; same = w .same; stopped = λ under. absurd (omega arith) }
+
+  pub walking-on : (next : ℕ) → Passed text at next → Walking text from next
+  walking-on next p = record { onward = omega (arith, w .onward, p .onward); inside = p .inside; same = w .same ∙ p .same }
+
+-- ---- Bytes that are characters by themselves, one after another
+
+pub plain-start : (text : List ℕ) (from to : ℕ) → from ≤ to → PlainSkipped text from to from
+plain-start text from to h = record { onward = omega arith; few = h; same = refl }
+
+pub plain-more : {text : List ℕ} {from to at : ℕ} → PlainSkipped text from to at → at < to → to ≤ length text → getD text at 0 < 0x80 → PlainSkipped text from to (at + 1)
+plain-more {text} {from} {to} {at} p h inside e =
+    let w : Walking text from at = record { onward = p .onward; inside = omega arith; same = p .same } in
+    let here : 1 ≡ character (drop at text) = rw (drop-cons text at 0 (omega arith)) (sym (one (getD text at 0) (drop (suc at) text) e)) in
+    record { onward = omega (arith, p .onward); few = omega arith; same = walking-more w 1 here (λ none. absurd (omega (arith, none))) .same }
+
+-- ---- A block
+
+module _ {text : List ℕ} {at to : ℕ} (b : BlockEnd at (length text) to) where
+  pub block-plain : (count : ℕ) → count ≡ longs (take (to - at) (drop at text)) → count ≡ 0 → Passed text at to
+  block-plain count e none =
+      let there : at + (to - at) ≡ to = omega (arith, b .some) in
+      record {
+        onward = omega (arith, b .some);
+        inside = b .inside;
+        same = longs-none (to - at) (drop at text) (omega (arith, length-drop at text, b .inside)) (sym e ∙ none)
+            ∙ ap wellFormed (drop-drop (to - at) at text ∙ ap (λ (n : ℕ). drop n text) there);
+        stopped = λ h. absurd (omega (arith, h, b .some));
+      }
+
+  pub block-broken : {next : ℕ} → Walked text at to next → next < to → Passed text at at
+  block-broken {next} w h =
+      record {
+        onward = omega arith;
+        inside = omega (arith, b .some, b .inside);
+        same = refl;
+        stopped = λ e. w .same ∙ well-formed-none (drop next text) (w .stopped h) (omega (arith, length-drop next text, b .inside));
+      }
+
+  pub block-walked : {next : ℕ} → Walked text at to next → to ≤ next → Passed text at next
+  block-walked {next} w h =
+      record { onward = w .onward; inside = w .inside; same = w .same; stopped = λ e. absurd (omega (arith, e, b .some)) }
+
+  -- up to the first byte that is no character by itself
+  module _ {first : ℕ} (p : PlainSkipped text at to first) where
+    pub skipped-walking : Walking text at first
+    skipped-walking = record { onward = p .onward; inside = omega (arith, p .few, b .inside); same = p .same }
+
+    pub block-all-plain : first ≡ to → Passed text at to
+    block-all-plain e = rw (← e) (record { onward = p .onward; inside = skipped-walking .inside; same = p .same; stopped = λ same. absurd (omega (arith, same, e, b .some)) })
+
+    pub block-first : (size : ℕ) → size ≡ character (drop first text) → (size ≡ 0 → ⊥) → Passed text at (first + size)
+    block-first size e some =
+        let w = walking-more skipped-walking size e some in
+        record { onward = w .onward; inside = w .inside; same = w .same; stopped = λ same. absurd (some (omega (arith, same, p .onward))) }
+
+-- ---- The whole text
+
+module _ {text : List ℕ} {at : ℕ} (w : Walking text 0 at) where
+  pub text-broken : {next : ℕ} → Passed text at next → next ≡ at → false ≡ wellFormed text
+  text-broken p e = sym (w .same ∙ p .stopped e)
+
+  pub text-passed : length text ≤ at → true ≡ wellFormed text
+  unfolding charactersIn flatten
+  text-passed h = sym (w .same ∙ ap wellFormed (drop-of-length-le text h))

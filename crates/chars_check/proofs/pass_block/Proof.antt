@@ -1,0 +1,61 @@
+-- `pass_block` meets its contract: over a block of bytes that are characters by themselves, else over the first longer character or over
+-- all characters.
+-- Assumes nothing.
+use Rattle.chars_check.proofs.Passing.{block-plain, block-broken, block-walked}
+use borrow.Author.Needs.{needs}
+use Rattle.chars_check.proofs.pass_block.Statement.{statement}
+use Rattle.chars_check.proofs.pass_block.Tie as tie
+
+-- ---- The places that others look back to
+
+abbrev after-block-end : tie.After-walk → tie.After-block-end
+after-block-end c = c .before .before .before .before .before
+
+block-end-requires : tie.Need-block-end-requires
+block-end-requires c κs = search needs
+
+sub-count-longs : tie.Need-sub-count-longs
+sub-count-longs c = search needs
+
+part-count-longs-start : tie.Need-part-count-longs-start
+part-count-longs-start c = search needs
+
+part-count-longs-end : tie.Need-part-count-longs-end
+part-count-longs-end c = search needs
+
+count-longs-requires : tie.Need-count-longs-requires
+count-longs-requires c κs = search needs
+
+returns : tie.Need-returns
+returns c = block-plain (c .before .before .before .block-end .ensures) _ (c .before .count-longs .ensures) (c .if1 .taken)
+
+pass-first-requires : tie.Need-pass-first-requires
+pass-first-requires c κs = search needs
+
+returns-2 : tie.Need-returns-2
+returns-2 c = search needs
+
+walk-requires : tie.Need-walk-requires
+walk-requires c κs = search needs
+
+returns-3 : tie.Need-returns-3
+returns-3 c = block-broken (after-block-end (c .before) .block-end .ensures) (c .before .walk .ensures) (c .if3 .taken)
+
+returns-4 : tie.Need-returns-4
+returns-4 c = block-walked (after-block-end (c .before) .block-end .ensures) (c .before .walk .ensures) (c .if3 .left)
+
+pub pass-block-spec : {M : Type 1} → statement M
+pass-block-spec =
+    tie.close
+    (tie.spec
+    block-end-requires
+    sub-count-longs
+    part-count-longs-start
+    part-count-longs-end
+    count-longs-requires
+    returns
+    pass-first-requires
+    returns-2
+    walk-requires
+    returns-3
+    returns-4)
