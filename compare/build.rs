@@ -8,7 +8,7 @@ use std::path::{Path, PathBuf};
 use std::{env, fs};
 
 /// The functions, after `noddrefyr_`, in the order of the header.
-const ORDER: [&str; 25] = [
+const ORDER: [&str; 27] = [
     "check_batch",
     "from_tokens",
     "set_sequence_id",
@@ -34,6 +34,8 @@ const ORDER: [&str; 25] = [
     "validate",
     "count_added",
     "process",
+    "bytes_to_chars",
+    "chars_to_bytes",
 ];
 
 /// Where the crates stand.
@@ -41,6 +43,9 @@ const CRATES: &str = "../crates";
 
 /// Where the lengths of arrays stand that a signature gives by name.
 const LENGTHS: &str = "../crates/template_text/src/lib.rt";
+
+/// Where the numbers of the refusals stand.
+const REFUSALS: &str = "../crates/record/src/lib.rt";
 
 /// What `compare/archive` writes.
 const LIBRARY: &str = "../target/libnoddrefyr.a";
@@ -82,10 +87,11 @@ fn main() {
     }
     let lengths = interface::lengths(&source(LENGTHS)).unwrap_or_else(|e| panic!("{LENGTHS}: {e}"));
     let functions = functions(&lengths);
+    let refusals = interface::refusals(&source(watched(REFUSALS)));
     let found = fs::canonicalize(watched(LIBRARY)).unwrap_or_else(|e| panic!("{LIBRARY}: {e}; run compare/archive"));
     println!("cargo:rustc-link-search=native={}", found.parent().unwrap().display());
     println!("cargo:rustc-link-lib=static=noddrefyr");
     let out = env::var("OUT_DIR").unwrap();
     fs::write(Path::new(&out).join("bindings.rs"), interface::bindings(&functions)).unwrap();
-    fs::write(Path::new(&out).join("noddrefyr.h"), interface::header(&functions)).unwrap();
+    fs::write(Path::new(&out).join("noddrefyr.h"), interface::header(&functions, &refusals)).unwrap();
 }

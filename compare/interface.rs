@@ -173,7 +173,7 @@ fn c_parameter((name, t): &(String, Type)) -> String {
 
 const HEADER_START: &str = "\
 /* The C interface of noddrefyr: encodings of tokens and their windows, in proved functions. Made by
-   `compare/run header` from the sources of the crates c_make to c_process; link target/libnoddrefyr.a, which
+   `compare/run header` from the sources of the crates c_* and record; link target/libnoddrefyr.a, which
    `compare/archive` writes.
 
    A batch is lent as two slices of uint32_t, nodes and rows, each as a pointer and its length in numbers (README.md
@@ -183,7 +183,7 @@ const HEADER_START: &str = "\
    numbers whatever; it needs only that each pointer is valid for its length, not null even where the length is 0,
    and that what it may write overlaps nothing else that it is lent.
 
-   Each function returns 0, or the number of the refusal (docs/OPERATIONS.md), unless its comment says otherwise. */
+   Each function returns 0, or the number of its refusal, unless its comment says otherwise. */
 #ifndef NODDREFYR_H
 #define NODDREFYR_H
 
@@ -203,9 +203,32 @@ const HEADER_END: &str = "
 #endif
 ";
 
+/// The refusals and their numbers, from the lines `Refusal::Name => number,` of a source.
+pub fn refusals(source: &str) -> Vec<(String, u32)> {
+    let arms = source.lines().filter_map(|line| line.trim().strip_prefix("Refusal::")?.strip_suffix(',')?.split_once(" => "));
+    arms.filter_map(|(name, number)| Some((name.to_string(), number.parse().ok()?))).collect()
+}
+
+/// `NameOfARefusal` as C writes a constant.
+fn c_constant(name: &str) -> String {
+    let mut out = String::from("NODDREFYR");
+    for letter in name.chars() {
+        if letter.is_uppercase() {
+            out.push('_');
+        }
+        out.push(letter.to_ascii_uppercase());
+    }
+    out
+}
+
 /// The C header.
-pub fn header(functions: &[Function]) -> String {
+pub fn header(functions: &[Function], refusals: &[(String, u32)]) -> String {
     let mut out = String::from(HEADER_START);
+    out += "\n/* What a function returns that refuses. README.md says each in words. */\nenum noddrefyr_refusal {\n";
+    for (name, number) in refusals {
+        out += &format!("    {} = {number},\n", c_constant(name));
+    }
+    out += "};\n";
     for f in functions {
         out.push('\n');
         if !f.doc.is_empty() {

@@ -1,5 +1,5 @@
 /* The C interface of noddrefyr: encodings of tokens and their windows, in proved functions. Made by
-   `compare/run header` from the sources of the crates c_make to c_process; link target/libnoddrefyr.a, which
+   `compare/run header` from the sources of the crates c_* and record; link target/libnoddrefyr.a, which
    `compare/archive` writes.
 
    A batch is lent as two slices of uint32_t, nodes and rows, each as a pointer and its length in numbers (README.md
@@ -9,7 +9,7 @@
    numbers whatever; it needs only that each pointer is valid for its length, not null even where the length is 0,
    and that what it may write overlaps nothing else that it is lent.
 
-   Each function returns 0, or the number of the refusal (docs/OPERATIONS.md), unless its comment says otherwise. */
+   Each function returns 0, or the number of its refusal, unless its comment says otherwise. */
 #ifndef NODDREFYR_H
 #define NODDREFYR_H
 
@@ -20,6 +20,28 @@
 #ifdef __cplusplus
 extern "C" {
 #endif
+
+/* What a function returns that refuses. README.md says each in words. */
+enum noddrefyr_refusal {
+    NODDREFYR_MALFORMED_RECORD = 1,
+    NODDREFYR_NO_ROOM = 2,
+    NODDREFYR_STRIDE = 3,
+    NODDREFYR_SECOND_MISSING = 4,
+    NODDREFYR_TOO_SHORT = 5,
+    NODDREFYR_OFFSET_TOO_LARGE = 6,
+    NODDREFYR_PART_UNREADABLE = 7,
+    NODDREFYR_TEMPLATE_TOO_LONG = 8,
+    NODDREFYR_PAIR_LACKS_A_OR_B = 9,
+    NODDREFYR_SPECIAL_ID_UNKNOWN = 10,
+    NODDREFYR_B_WITHOUT_SECOND = 11,
+    NODDREFYR_IDS_AND_TEXTS_DIFFER = 12,
+    NODDREFYR_SEQUENCE_ID_ABOVE_LAST = 13,
+    NODDREFYR_TEXT_OUTSIDE_POOL = 14,
+    NODDREFYR_MALFORMED_TABLE = 15,
+    NODDREFYR_NOT_TEXT = 16,
+    NODDREFYR_OFFSET_PAST_END = 17,
+    NODDREFYR_OFFSET_INSIDE_CHARACTER = 18,
+};
 
 /* Whether two slices are a well-formed batch (else 1), and the number of its encodings at the top. */
 uint32_t noddrefyr_check_batch(
@@ -271,6 +293,26 @@ uint32_t noddrefyr_process(
     uint32_t *out_rows, size_t out_rows_len,
     uint32_t *working_nodes, size_t working_nodes_len,
     uint32_t *working_rows, size_t working_rows_len,
+    size_t written[2]);
+
+/* A batch whose offsets are places of bytes in a text, with the number of characters before each in its place, written to the output;
+   written is its nodes and its rows. The text is in UTF-8. Refused with 1, 16, then 17 or 18 by the first row concerned, 2. */
+uint32_t noddrefyr_bytes_to_chars(
+    const uint32_t *nodes, size_t nodes_len,
+    const uint32_t *rows, size_t rows_len,
+    const uint8_t *text, size_t text_len,
+    uint32_t *out_nodes, size_t out_nodes_len,
+    uint32_t *out_rows, size_t out_rows_len,
+    size_t written[2]);
+
+/* The way back: a batch whose offsets are numbers of characters, with the place of each character's first byte in its place, the
+   text's length for the number of all. Refused with 1, 16, 17, 2. */
+uint32_t noddrefyr_chars_to_bytes(
+    const uint32_t *nodes, size_t nodes_len,
+    const uint32_t *rows, size_t rows_len,
+    const uint8_t *text, size_t text_len,
+    uint32_t *out_nodes, size_t out_nodes_len,
+    uint32_t *out_rows, size_t out_rows_len,
     size_t written[2]);
 
 #ifdef __cplusplus
