@@ -10,6 +10,7 @@ mod lookups;
 mod made;
 mod making;
 mod merging;
+mod offsets;
 mod ours;
 mod outputs;
 mod padding;
@@ -55,6 +56,7 @@ fn operations() -> Vec<Operation> {
     all.extend([sequence_column::OPERATION, making::FROM_TOKENS, making::SET_SEQUENCE_ID, texts::TEXT, texts::SPAN, truncating::OPERATION]);
     all.extend([merging::MERGE_WITH, merging::MERGE, pairs::OPERATION, padding::PAD, padding::PAD_ENCODINGS]);
     all.extend([templates::OPERATION, validating::VALIDATE, validating::COUNT_ADDED, processing::OPERATION]);
+    all.extend([offsets::BYTES_TO_CHARS, offsets::CHARS_TO_BYTES]);
     all
 }
 
@@ -103,6 +105,7 @@ fn main() -> ExitCode {
         ["bench"] => times(None),
         ["bench", name] if all().iter().any(|o| o.name == name) => times(Some(name)),
         [name] if all().iter().any(|o| o.name == name) => compare(SEED, COUNT, Some(name)),
+        ["longest"] => offsets::longest(),
         ["header"] => made::header().write(),
         ["store"] => made::stored_cases(&operations(), &REPLAYED).iter().all(made::Made::write),
         [seed, count] => match (seed.parse(), count.parse()) {
@@ -115,6 +118,6 @@ fn main() -> ExitCode {
 }
 
 fn usage() -> bool {
-    eprintln!("usage: compare/run [SEED COUNT | OPERATION | bench [OPERATION] | header | store]");
+    eprintln!("usage: compare/run [SEED COUNT | OPERATION | bench [OPERATION] | longest | header | store]");
     false
 }

@@ -1,4 +1,5 @@
 //! The library under test: a safe function over each declaration that build.rs made from its source.
+use crate::offsets::Way;
 use tokenizers::bridge::Batch;
 
 mod bindings {
@@ -123,11 +124,38 @@ impl Lent {
         }
     }
 
+    pub fn convert_offsets(&mut self, b: &Batch, text: &[u8], way: Way) -> u32 {
+        let (bn, br, n, r) = (&b.nodes, &b.rows, &mut self.out.nodes, &mut self.out.rows);
+        let counts = self.counts.as_mut_ptr();
+        let call = match way {
+            Way::ToChars => bindings::noddrefyr_bytes_to_chars,
+            Way::ToBytes => bindings::noddrefyr_chars_to_bytes,
+        };
+        unsafe { call(bn.as_ptr(), bn.len(), br.as_ptr(), br.len(), text.as_ptr(), text.len(), n.as_mut_ptr(), n.len(), r.as_mut_ptr(), r.len(), counts) }
+    }
+
     pub fn set_sequence_id(&mut self, b: &Batch, id: u32) -> u32 {
         let (bn, br, n, r) = (&b.nodes, &b.rows, &mut self.out.nodes, &mut self.out.rows);
         let counts = self.counts.as_mut_ptr();
         unsafe { bindings::noddrefyr_set_sequence_id(bn.as_ptr(), bn.len(), br.as_ptr(), br.len(), id, n.as_mut_ptr(), n.len(), r.as_mut_ptr(), r.len(), counts) }
     }
+}
+
+pub fn convert_offsets(b: &Batch, text: &[u8], way: Way, nodes: usize, rows: usize) -> Output {
+    Lent::new(nodes, rows).told(|lent| lent.convert_offsets(b, text, way))
+}
+
+/// The refusal of a text of this length, of which only the first byte is there: a length above 32 bits is refused by itself.
+pub fn text_of_length(length: usize, way: Way) -> u32 {
+    assert!(length > u32::MAX as usize);
+    let (byte, mut counts) = (0u8, [0usize; 2]);
+    let (none, out) = (std::ptr::NonNull::<u32>::dangling().as_ptr(), std::ptr::NonNull::<u32>::dangling().as_ptr());
+    let call = match way {
+        Way::ToChars => bindings::noddrefyr_bytes_to_chars,
+        Way::ToBytes => bindings::noddrefyr_chars_to_bytes,
+    };
+    // SAFETY: no byte of a text that is too long is read.
+    unsafe { call(none, 0, none, 0, &byte, length, out, 0, out, 0, counts.as_mut_ptr()) }
 }
 
 pub fn truncate(b: &Batch, max: u32, stride: u32, left: bool, nodes: usize, rows: usize) -> Output {
