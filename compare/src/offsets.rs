@@ -273,7 +273,8 @@ fn store(r: &mut Rng, way: Way) -> Vec<Stored> {
 // ---- Times
 
 /// The texts that are timed: how many characters there are to a longer one, 0 for none.
-const TEXTS: [(&str, u64); 3] = [("1 in 3 longer", 3), ("1 in 100 longer", 100), ("none longer", 0)];
+const TEXTS: [(&str, u64); 5] =
+    [("1 in 3 longer", 3), ("1 in 30 longer", 30), ("1 in 100 longer", 100), ("1 in 1000 longer", 1000), ("none longer", 0)];
 
 /// A text of about so many bytes, with one longer character in so many.
 fn sparse_text(r: &mut Rng, bytes: usize, one_in: u64) -> Vec<u8> {
