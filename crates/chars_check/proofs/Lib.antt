@@ -1,1 +1,2 @@
+pub mod Longs
 pub mod Passing

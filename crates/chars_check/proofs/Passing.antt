@@ -1,64 +1,21 @@
--- Passing over a text: over bytes that are characters by themselves, over one character, over a block.
+-- Passing over a text: over one character, over bytes that are characters by themselves, over a block.
 -- Assumes nothing.
 use mathlib.Core.Path.{_≡_, refl, ap, sym, _∙_}
-use mathlib.Core.Bool.{Bool, true, false, cond}
+use mathlib.Core.Bool.{Bool, true, false}
 use Prim.Native.Nat.{ℕ, zero, suc, _+_, _-_, _≤_, _<_}
-use native.Mathlib.Numerals.{add-one}
 use native.Mathlib.Omega.{arith}
-use mathlib.Core.List.{List, [], _∷_, flatten}
-use lib.Dec.{leb}
+use mathlib.Core.List.{List, flatten}
+use lib.Dec.{eqb}
 use lib.ListN.{length, getD, take, drop, length-drop, drop-of-length-le}
 use lib.Seq.{drop-cons, drop-drop}
-use borrow.Author.Tests.{leb-false, le-leb, lt-leb}
+use borrow.Author.Tests.{eqb-true, eqb-false}
 use Rattle.chars_text.specs.Utf8.{character}
 use Rattle.chars_text.specs.Characters.{charactersIn, wellFormed}
 use Rattle.chars_text.proofs.Rows.{one}
 use Rattle.chars_text.proofs.Led.{character-inside}
 use Rattle.chars_text.proofs.Reading.{well-formed-step, well-formed-none}
-use Rattle.chars_count.specs.Contracts.{BlockEnd}
 use Rattle.chars_check.specs.Contracts.{longs, Walked, PlainSkipped, Passed}
-
--- ---- Bytes that are characters by themselves
-
--- The count of the bytes passed and of the rest is that of all.
-pub record Counting (block : List ℕ) (i count : ℕ) : Type 0 where
-  pub inside : i ≤ length block
-  pub few : count ≤ i
-  pub all : count + longs (drop i block) ≡ longs block
-
-pub counting-start : (block : List ℕ) → Counting block 0 0
-counting-start block = record { inside = omega arith; few = omega arith; all = omega arith }
-
-module _ {block : List ℕ} {i count : ℕ} (k : Counting block i count) where
-  pub counting-more : i < length block → 0x80 ≤ getD block i 0 → Counting block (i + 1) (count + 1)
-  unfolding longs
-  counting-more h e =
-      let step : longs (drop i block) ≡ suc (longs (drop (i + 1) block)) = rw (add-one, drop-cons block i 0 h, longs, le-leb 0x80 (getD block i 0) e) in
-      record { inside = omega arith; few = omega (arith, k .few); all = omega (arith, k .all, step) }
-
-  pub counting-next : i < length block → getD block i 0 < 0x80 → Counting block (i + 1) count
-  unfolding longs
-  counting-next h e =
-      let step : longs (drop i block) ≡ longs (drop (i + 1) block) = rw (add-one, drop-cons block i 0 h, longs, lt-leb 0x80 (getD block i 0) e) in
-      record { inside = omega arith; few = omega (arith, k .few); all = omega (arith, k .all, step) }
-
-  pub counting-end : length block ≤ i → count ≡ longs block
-  unfolding longs
-  counting-end h =
-      let rest : longs (drop i block) ≡ 0 = rw (drop-of-length-le block h) in
-      omega (arith, k .all, rest)
-
--- none of them is part of a longer character
-pub longs-none : (n : ℕ) (text : List ℕ) → n ≤ length text → longs (take n text) ≡ 0 → wellFormed text ≡ wellFormed (drop n text)
-unfolding longs
-longs-none zero text h e = refl
-longs-none (suc n) [] h e = absurd (omega arith)
-longs-none (suc n) (b ∷ text) h e = go (leb 0x80 b) refl e (longs-none n text (omega arith))
-  where
-    go : (t : Bool) → leb 0x80 b ≡ t → cond t (suc (longs (take n text))) (longs (take n text)) ≡ 0 → (longs (take n text) ≡ 0 → wellFormed text ≡ wellFormed (drop n text))
-        → wellFormed (b ∷ text) ≡ wellFormed (drop n text)
-    go true t e after = absurd (omega (arith, e))
-    go false t e after = well-formed-step (b ∷ text) 0 (one b text (leb-false 0x80 b t)) ∙ after e
+use Rattle.chars_check.proofs.Longs.{longs-none}
 
 -- ---- One character after another
 
@@ -106,38 +63,38 @@ plain-more {text} {from} {to} {at} p h inside e =
 
 -- ---- A block
 
-module _ {text : List ℕ} {at to : ℕ} (b : BlockEnd at (length text) to) where
+module _ {text : List ℕ} {at to : ℕ} (b : (at < to) × (to ≤ length text)) where
   pub block-plain : (count : ℕ) → count ≡ longs (take (to - at) (drop at text)) → count ≡ 0 → Passed text at to
   block-plain count e none =
-      let there : at + (to - at) ≡ to = omega (arith, b .some) in
+      let there : at + (to - at) ≡ to = omega (arith, b .0) in
       record {
-        onward = omega (arith, b .some);
-        inside = b .inside;
-        same = longs-none (to - at) (drop at text) (omega (arith, length-drop at text, b .inside)) (sym e ∙ none)
+        onward = omega (arith, b .0);
+        inside = b .1;
+        same = longs-none (to - at) (drop at text) (omega (arith, length-drop at text, b .1)) (sym e ∙ none)
             ∙ ap wellFormed (drop-drop (to - at) at text ∙ ap (λ (n : ℕ). drop n text) there);
-        stopped = λ h. absurd (omega (arith, h, b .some));
+        stopped = λ h. absurd (omega (arith, h, b .0));
       }
 
   pub block-broken : {next : ℕ} → Walked text at to next → next < to → Passed text at at
   block-broken {next} w h =
       record {
         onward = omega arith;
-        inside = omega (arith, b .some, b .inside);
+        inside = omega (arith, b .0, b .1);
         same = refl;
-        stopped = λ e. w .same ∙ well-formed-none (drop next text) (w .stopped h) (omega (arith, length-drop next text, b .inside));
+        stopped = λ e. w .same ∙ well-formed-none (drop next text) (w .stopped h) (omega (arith, length-drop next text, b .1));
       }
 
   pub block-walked : {next : ℕ} → Walked text at to next → to ≤ next → Passed text at next
   block-walked {next} w h =
-      record { onward = w .onward; inside = w .inside; same = w .same; stopped = λ e. absurd (omega (arith, e, b .some)) }
+      record { onward = w .onward; inside = w .inside; same = w .same; stopped = λ e. absurd (omega (arith, e, b .0)) }
 
   -- up to the first byte that is no character by itself
   module _ {first : ℕ} (p : PlainSkipped text at to first) where
     pub skipped-walking : Walking text at first
-    skipped-walking = record { onward = p .onward; inside = omega (arith, p .few, b .inside); same = p .same }
+    skipped-walking = record { onward = p .onward; inside = omega (arith, p .few, b .1); same = p .same }
 
     pub block-all-plain : first ≡ to → Passed text at to
-    block-all-plain e = rw (← e) (record { onward = p .onward; inside = skipped-walking .inside; same = p .same; stopped = λ same. absurd (omega (arith, same, e, b .some)) })
+    block-all-plain e = rw (← e) (record { onward = p .onward; inside = skipped-walking .inside; same = p .same; stopped = λ same. absurd (omega (arith, same, e, b .0)) })
 
     pub block-first : (size : ℕ) → size ≡ character (drop first text) → (size ≡ 0 → ⊥) → Passed text at (first + size)
     block-first size e some =
@@ -150,6 +107,15 @@ module _ {text : List ℕ} {at : ℕ} (w : Walking text 0 at) where
   pub text-broken : {next : ℕ} → Passed text at next → next ≡ at → false ≡ wellFormed text
   text-broken p e = sym (w .same ∙ p .stopped e)
 
-  pub text-passed : length text ≤ at → true ≡ wellFormed text
+  -- what is left is walked over to its end, or it is not well-formed
+  pub text-rest : {rest : ℕ} → Walked text at (length text) rest → eqb rest (length text) ≡ wellFormed text
   unfolding charactersIn flatten
-  text-passed h = sym (w .same ∙ ap wellFormed (drop-of-length-le text h))
+  text-rest {rest} walked = go (eqb rest (length text)) refl ∙ sym (w .same ∙ walked .same)
+    where
+      go : (t : Bool) → eqb rest (length text) ≡ t → t ≡ wellFormed (drop rest text)
+      go true t =
+          let past : length text ≤ rest = omega (arith, eqb-true rest (length text) t) in
+          sym (ap wellFormed (drop-of-length-le text past))
+      go false t =
+          let under : rest < length text = omega (arith, walked .inside, eqb-false rest (length text) t) in
+          sym (well-formed-none (drop rest text) (walked .stopped under) (omega (arith, length-drop rest text)))

@@ -1,13 +1,15 @@
-// Whether a text is well-formed UTF-8 (RFC 3629): a block of bytes at a time, and by characters where a block has longer ones.
+// Whether a text is well-formed UTF-8 (RFC 3629): a block of bytes at a time, and by characters where a block has longer ones and behind the
+// last block.
 ghost use mathlib.Core.Path.{_≡_};
-ghost use Prim.Native.Nat.{_≤_, _<_};
+ghost use Prim.Native.Nat.{_+_, _≤_, _<_};
 ghost use lib.ListN.{length};
 ghost use Rattle.chars_text.specs.Characters.{wellFormed};
-ghost use Rattle.chars_count.specs.Contracts.{byteLargest, BlockEnd};
+ghost use Rattle.chars_count.specs.Contracts.{blockBytes, byteLargest};
 ghost use Rattle.chars_check.specs.Contracts.{longs, Walked, PlainSkipped, Passed};
+use chars_count::BLOCK;
 
-// Up to how many bytes of longer characters in a block are few: those of one.
-const FEW: u8 = 5;
+// Up to how many bytes of longer characters in a block are few: those of four.
+const FEW: u8 = 17;
 
 // How many bytes of a block are no characters by themselves. They are counted in a byte, so that the compiler adds many at once.
 fn count_longs(block: &[u8]) -> u8
@@ -58,7 +60,7 @@ fn skip_plain(text: &[u8], from: usize, to: usize) -> usize
 
 // The place after a block's first longer character; the same place if that is not well-formed.
 fn pass_first(text: &[u8], at: usize, to: usize) -> usize
-    requires { ⌜ BlockEnd at (length (now text)) to ⌝ }
+    requires { ⌜ (at < to) × (to ≤ length (now text)) ⌝ }
     ensures { λ r. ⌜ Passed (now (text .entry)) at r ⌝ }
 {
     let first = skip_plain(text, at, to);
@@ -75,10 +77,10 @@ fn pass_first(text: &[u8], at: usize, to: usize) -> usize
 // The place after the block at a place and its last character; after its first longer one where it has few, since what follows that is
 // likely plain. The same place if a character of the block is not well-formed.
 fn pass_block(text: &[u8], at: usize) -> usize
-    requires { ⌜ at < length (now text) ⌝ }
+    requires { ⌜ at + blockBytes ≤ length (now text) ⌝ }
     ensures { λ r. ⌜ Passed (now (text .entry)) at r ⌝ }
 {
-    let to = chars_count::block_end(at, text.len());
+    let to = at + BLOCK;
     let longs = count_longs(&text[at..to]);
     if longs == 0 {
         return to;
@@ -98,12 +100,12 @@ pub fn well_formed(text: &[u8]) -> bool
     ensures { λ r. ⌜ r ≡ wellFormed (now (text .entry)) ⌝ }
 {
     let mut at = 0;
-    while at < text.len() {
+    while BLOCK <= text.len() - at {
         let next = pass_block(text, at);
         if next == at {
             return false;
         }
         at = next;
     }
-    true
+    walk(text, at, text.len()) == text.len()
 }

@@ -10,7 +10,7 @@ use lib.Seq.{drop-cons, drop-drop, take-add}
 use Rattle.chars_text.specs.Utf8.{tail}
 use Rattle.chars_text.specs.Characters.{starts}
 use Rattle.chars_text.proofs.Starts.{starts-append, starts-few}
-use Rattle.chars_count.specs.Contracts.{startOf, BlockEnd}
+use Rattle.chars_count.specs.Contracts.{startOf}
 
 starts-first : (byte : ℕ) (text : List ℕ) → starts (byte ∷ text) ≡ startOf byte + starts text
 unfolding starts
@@ -69,13 +69,13 @@ module _ {text : List ℕ} {from to at count : ℕ} (a : Adding text from to at 
   pub adding-few : count ≤ at
   adding-few = omega (arith, a .all, starts-few (take (at - from) (drop from text)), length-take (at - from) (drop from text), a .onward)
 
-  pub adding-more : {end : ℕ} (more : ℕ) → BlockEnd at to end → more ≡ starts (take (end - at) (drop at text)) → Adding text from to end (count + more)
-  adding-more {end} more b e =
-      let split : end - from ≡ (at - from) + (end - at) = omega (arith, b .some, a .onward) in
+  pub adding-more : (end more : ℕ) → at ≤ end → end ≤ to → more ≡ starts (take (end - at) (drop at text)) → Adding text from to end (count + more)
+  adding-more end more onward inside e =
+      let split : end - from ≡ (at - from) + (end - at) = omega (arith, a .onward) in
       let here : from + (at - from) ≡ at = omega (arith, a .onward) in
       record {
-        onward = omega (arith, b .some, a .onward);
-        inside = b .inside;
+        onward = omega (arith, a .onward);
+        inside = inside;
         all =
             ap (λ (n : ℕ). n + more) (a .all)
             ∙ ap (_+_ (starts (take (at - from) (drop from text)))) (e ∙ ap (λ (n : ℕ). starts (take (end - at) (drop n text))) (sym here) ∙ ap (λ (l : List ℕ). starts (take (end - at) l)) (sym (drop-drop (at - from) from text)))
@@ -84,7 +84,6 @@ module _ {text : List ℕ} {from to at count : ℕ} (a : Adding text from to at 
             ∙ ap (λ (n : ℕ). starts (take n (drop from text))) (sym split);
       }
 
-  pub adding-end : to ≤ at → count ≡ starts (take (to - from) (drop from text))
-  adding-end h =
-      let there : at ≡ to = omega (arith, a .inside) in
-      rw (← there) (a .all)
+  -- and of what is left
+  pub adding-end : (more : ℕ) → more ≡ starts (take (to - at) (drop at text)) → count + more ≡ starts (take (to - from) (drop from text))
+  adding-end more e = adding-more to more (a .inside) (omega arith) e .all

@@ -1,12 +1,12 @@
 // Counting the bytes of a text that are no tails, which are the first bytes of its characters: a block of bytes at a time.
 ghost use mathlib.Core.Path.{_≡_};
-ghost use Prim.Native.Nat.{_-_, _≤_, _<_};
+ghost use Prim.Native.Nat.{_-_, _≤_};
 ghost use lib.ListN.{length, take, drop};
 ghost use Rattle.chars_text.specs.Characters.{starts};
-ghost use Rattle.chars_count.specs.Contracts.{byteLargest, startOf, BlockEnd};
+ghost use Rattle.chars_count.specs.Contracts.{byteLargest, startOf};
 
 // How many bytes are taken together. They are counted in a byte, so that the compiler adds many at once.
-const BLOCK: usize = 64;
+pub const BLOCK: usize = 64;
 
 // 1 for a byte that is no tail, 0 for a tail.
 pub fn start(byte: u8) -> u8
@@ -35,17 +35,6 @@ pub fn count_block(block: &[u8]) -> u8
     count
 }
 
-// Where the block from a place on ends: at the end if that comes first.
-pub fn block_end(at: usize, end: usize) -> usize
-    requires { ⌜ at < end ⌝ }
-    ensures { λ r. ⌜ BlockEnd at end r ⌝ }
-{
-    if end - at < BLOCK {
-        return end;
-    }
-    at + BLOCK
-}
-
 // A count as a length. A cast of it asks that it fits; this asks nothing.
 pub fn wide(count: u8) -> usize
     ensures { λ r. ⌜ r ≡ count ⌝ }
@@ -53,17 +42,17 @@ pub fn wide(count: u8) -> usize
     count as usize
 }
 
-// How many bytes are no tails, from one place of a text up to another.
+// How many bytes are no tails, from one place of a text up to another: of whole blocks, whose size the compiler knows, and of the rest.
 pub fn count_starts(text: &[u8], from: usize, to: usize) -> usize
     requires { ⌜ (from ≤ to) × (to ≤ length (now text)) ⌝ }
     ensures { λ r. ⌜ r ≡ starts (take (to - from) (drop from (now (text .entry)))) ⌝ }
 {
     let mut count: usize = 0;
     let mut at = from;
-    while at < to {
-        let end = block_end(at, to);
+    while BLOCK <= to - at {
+        let end = at + BLOCK;
         count += wide(count_block(&text[at..end]));
         at = end;
     }
-    count
+    count + wide(count_block(&text[at..to]))
 }

@@ -3,7 +3,7 @@
 use mathlib.Core.Logic.{⊎-elim}
 use Prim.Native.Nat.{_-_}
 use lib.ListN.{length}
-use Rattle.chars_check.proofs.Passing.{Counting, counting-start, counting-more, counting-next, counting-end}
+use Rattle.chars_check.proofs.Longs.{Counting, counting-start, counting-more, counting-next, counting-end}
 use borrow.Author.Needs.{needs}
 use Rattle.chars_check.proofs.count_longs.Statement.{statement}
 use Rattle.chars_check.proofs.count_longs.Tie as tie

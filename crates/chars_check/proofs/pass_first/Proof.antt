@@ -14,7 +14,7 @@ returns c = block-all-plain (c .before .before .before .pre) (c .before .skip-pl
 character-at-requires : tie.Need-character-at-requires
 character-at-requires c κs =
     let skipped = c .before in
-    omega (arith, skipped .skip-plain .ensures .few, c .if1 .left, skipped .before .before .pre .inside)
+    omega (arith, skipped .skip-plain .ensures .few, c .if1 .left, skipped .before .before .pre .1)
 
 returns-2 : tie.Need-returns-2
 returns-2 c =

@@ -17,8 +17,11 @@ abbrev μ-loop : tie.MeasureT-loop
 loop-holds : tie.Need-loop-holds Inv-loop μ-loop
 loop-holds c = adding-start _ _ _ (omega arith)
 
-block-end-requires : tie.Need-block-end-requires Inv-loop μ-loop
-block-end-requires c κs = search needs
+sub-loop : tie.Need-sub-loop Inv-loop μ-loop
+sub-loop c = c .loop .inv .inside
+
+add-end : tie.Need-add-end Inv-loop μ-loop
+add-end c = search needs
 
 sub-count-block : tie.Need-sub-count-block Inv-loop μ-loop
 sub-count-block c = search needs
@@ -35,21 +38,42 @@ count-block-requires c κs = search needs
 wide-requires : tie.Need-wide-requires Inv-loop μ-loop
 wide-requires c κs = search needs
 
+loop-again : tie.Need-loop-again Inv-loop μ-loop
+loop-again c =
+    let here = c .before .before .before in
+    let inv = here .before .loop .inv in
+    adding-more inv _ _ (omega arith) (omega (arith, here .loop-test .taken, inv .inside)) (c .wide .ensures ∙ c .before .count-block .ensures)
+
 add-count : tie.Need-add-count Inv-loop μ-loop
-add-count c =
-    let before = c .before .before .before in
-    omega (arith, adding-few (adding-more (before .before .before .loop .inv) _ (before .block-end .ensures) (c .wide .ensures ∙ c .before .count-block .ensures)))
+add-count c = omega (arith, adding-few (loop-again c), loop-again c .inside)
 
 loop-less : tie.Need-loop-less Inv-loop μ-loop
 loop-less c = search needs
 
-loop-again : tie.Need-loop-again Inv-loop μ-loop
-loop-again c =
-    let before = c .before .before .before in
-    adding-more (before .before .before .loop .inv) _ (before .block-end .ensures) (c .wide .ensures ∙ c .before .count-block .ensures)
+sub-count-block-2 : tie.Need-sub-count-block-2 Inv-loop μ-loop
+sub-count-block-2 c = search needs
+
+part-count-block-start-2 : tie.Need-part-count-block-start-2 Inv-loop μ-loop
+part-count-block-start-2 c = search needs
+
+part-count-block-end-2 : tie.Need-part-count-block-end-2 Inv-loop μ-loop
+part-count-block-end-2 c = search needs
+
+count-block-requires-2 : tie.Need-count-block-requires-2 Inv-loop μ-loop
+count-block-requires-2 c κs = search needs
+
+wide-requires-2 : tie.Need-wide-requires-2 Inv-loop μ-loop
+wide-requires-2 c κs = search needs
+
+add-result : tie.Need-add-result Inv-loop μ-loop
+add-result c =
+    let rest = c .before .before .before in
+    omega (arith, adding-few (adding-more (rest .before .loop .inv) _ _ (rest .before .loop .inv .inside) (omega arith) (c .wide2 .ensures ∙ c .before .count-block2 .ensures)))
 
 returns : tie.Need-returns Inv-loop μ-loop
-returns c = adding-end (c .before .loop .inv) (c .loop-test .left)
+returns c =
+    let rest = c .before .before .before in
+    adding-end (rest .before .loop .inv) _ (c .wide2 .ensures ∙ c .before .count-block2 .ensures)
 
 pub count-starts-spec : {M : Type 1} → statement M
 count-starts-spec =
@@ -58,7 +82,8 @@ count-starts-spec =
     Inv-loop
     μ-loop
     loop-holds
-    block-end-requires
+    sub-loop
+    add-end
     sub-count-block
     part-count-block-start
     part-count-block-end
@@ -67,4 +92,10 @@ count-starts-spec =
     add-count
     loop-less
     loop-again
+    sub-count-block-2
+    part-count-block-start-2
+    part-count-block-end-2
+    count-block-requires-2
+    wide-requires-2
+    add-result
     returns)
