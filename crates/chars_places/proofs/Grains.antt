@@ -1,5 +1,4 @@
 -- The size of blocks, doubled until few enough cover a text; and the block that a place is in. Assumes nothing.
-use mathlib.Core.Path.{_≡_, refl}
 use mathlib.Core.Logic.{⊎-elim}
 use Prim.Native.Nat.{ℕ, _+_, _*_, _/_, _^_, _≤_, _<_}
 use native.Mathlib.Nat.{pow-suc, div-mul-le-self, le-of-mul-le-mul-right}
@@ -8,18 +7,10 @@ use native.Mathlib.Omega.{arith}
 use lib.Pow.{pow-mono, pow-pos}
 use Rattle.lists.proofs.Numbers.{either}
 use Rattle.chars_places.specs.declared.Grain.{Grain}
-use Rattle.chars_places.specs.Contracts.{blocksMost, placesMost, Grained}
+use Rattle.chars_places.specs.Contracts.{blocksMost, placesMost, Doubling, Grained}
 use Rattle.chars_places.specs.Lengths.{textLargest}
 
 -- ---- Doubled
-
--- A block is a power of two that is not too large.
-pub record Doubling (shift block : ℕ) : Type 0 where
-  pub power : block ≡ 2 ^ shift
-  pub small : block ≤ textLargest
-
-pub doubling-start : Doubling 6 64
-doubling-start = record { power = refl; small = omega arith }
 
 module _ {shift block : ℕ} (d : Doubling shift block) where
   pub doubling-few : shift < 32

@@ -16,6 +16,11 @@ blocksMost = 16384
 abbrev pub placesMost : ℕ
 placesMost = 16385
 
+-- The size of a block is a power of two, and not too large.
+pub record Doubling (shift block : ℕ) : Type 0 where
+  pub power : block ≡ 2 ^ shift
+  pub small : block ≤ textLargest
+
 -- The size of the blocks of a text of this length: a power of two, of which few enough cover it.
 pub record Grained (size : ℕ) (grain : Grain) : Type 0 where
   pub power : grain .block ≡ 2 ^ grain .shift

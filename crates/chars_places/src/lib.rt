@@ -1,7 +1,7 @@
 // A table of the places of a text, made once: at the beginning of every block how many characters there are before it, so that what is
 // left to count lies within one block.
 ghost use Prim.Native.Nat.{_≤_};
-ghost use Rattle.chars_places.specs.Contracts.{Grained, Fillable, Tabled};
+ghost use Rattle.chars_places.specs.Contracts.{Doubling, Grained, Fillable, Tabled};
 ghost use Rattle.chars_places.specs.Lengths.{textLargest};
 
 // How many blocks a text is cut into at most: of 64 bytes for a text of a megabyte.
@@ -22,13 +22,13 @@ pub struct Mark {
     pub count: usize,
 }
 
-// The smallest blocks of 64 bytes or more with which a text of this length has few enough.
-pub fn grain_of(size: usize) -> Grain
-    requires { ⌜ size ≤ textLargest ⌝ }
+// The smallest blocks with which a text of this length has few enough: these, or twice as large, and so on.
+pub fn grain_of(size: usize, smallest: Grain) -> Grain
+    requires { ⌜ (size ≤ textLargest) × Doubling (smallest .shift) (smallest .block) ⌝ }
     ensures { λ r. ⌜ Grained size r ⌝ }
 {
-    let mut shift: usize = 6;
-    let mut block: usize = 64;
+    let mut shift = smallest.shift;
+    let mut block = smallest.block;
     while block * BLOCKS < size {
         block *= 2;
         shift += 1;

@@ -1,6 +1,7 @@
 // A batch with its offsets converted, written to an output that has room for it (document 02, request 01).
 ghost use mathlib.Core.Path.{_≡_};
 ghost use lib.Seq.{sets};
+ghost use Rattle.chars_places.specs.Contracts.{Doubling};
 ghost use Rattle.chars_back.specs.Contracts.{BackFillable};
 ghost use Rattle.offsets_write.specs.Contracts.{TabledBy};
 ghost use Rattle.offsets_batch.specs.Contracts.{Copied, Convertible, convertedNumbers, turnedNumbers};
@@ -8,6 +9,9 @@ use chars_places::Grain;
 use chars_places::PLACES;
 use offsets_trees::Way;
 use record::Encoding;
+
+// From how many bytes on a text is long.
+const LONG: usize = 262_144;
 
 // The nodes as they are, and the rows with other offsets. A table is made only where it is needed: in a text of as many characters as
 // bytes every offset stays.
@@ -38,10 +42,28 @@ fn convert_copied(way: Way, text: &[u8], total: usize, out_rows: &mut [u32], cou
     requires { ⌜ Copied way (now text) total (now «out_rows») count ⌝ }
     ensures { λ _. ⌜ now («out_rows» .exit) ≡ turnedNumbers way (now (text .entry)) (now («out_rows» .entry)) count ⌝ }
 {
-    let grain = chars_places::grain_of(text.len());
+    let grain = chars_places::grain_of(text.len(), smallest(way, text.len()));
     let mut table = [0u32; PLACES];
     fill(way, text, grain, total, &mut table);
     offsets_write::convert_rows(way, text, grain, &table, out_rows, count);
+}
+
+// The smallest blocks of a way's table for a text of this length. Towards bytes an entry takes longer to find, so a long text has fewer.
+fn smallest(way: Way, size: usize) -> Grain
+    ensures { λ r. ⌜ Doubling (r .shift) (r .block) ⌝ }
+{
+    if let Way::ToBytes = way {
+        if LONG <= size {
+            return Grain {
+                shift: 8,
+                block: 256,
+            };
+        }
+    }
+    Grain {
+        shift: 6,
+        block: 64,
+    }
 }
 
 // The table that a way needs.

@@ -1,6 +1,7 @@
 -- `grain_of` meets its contract. The loop's invariant, `Doubling`: the block is a power of two. Assumes nothing.
 use Prim.Native.Nat.{_-_}
-use Rattle.chars_places.proofs.Grains.{Doubling, doubling-start, doubling-few, doubling-some, doubling-more, doubling-end}
+use Rattle.chars_places.specs.Contracts.{Doubling}
+use Rattle.chars_places.proofs.Grains.{doubling-few, doubling-some, doubling-more, doubling-end}
 use borrow.Author.Needs.{needs}
 use native.Mathlib.Omega.{arith}
 use Rattle.chars_places.proofs.grain_of.Statement.{statement}
@@ -13,7 +14,7 @@ abbrev μ-loop : tie.MeasureT-loop
 μ-loop size shift₀ block₀ shift block = size - block
 
 loop-holds : tie.Need-loop-holds Inv-loop μ-loop
-loop-holds c = doubling-start
+loop-holds c = search needs
 
 mul-loop : tie.Need-mul-loop Inv-loop μ-loop
 mul-loop c = search needs
