@@ -15,7 +15,7 @@ use chars_places::PLACES;
 const NEAR: usize = 64;
 
 // Whether the next one is not near: before the last, or far behind it. Either answer is right for one behind it.
-fn far(last: usize, next: usize) -> bool
+pub fn far(last: usize, next: usize) -> bool
     ensures { λ r. ⌜ (r ≡ false → last ≤ next) ⌝ }
 {
     if next < last {

@@ -1,41 +1,34 @@
--- One offset converted: the mark that is found is one of the text, and what the offset becomes. Assumes nothing.
-use mathlib.Core.Path.{_≡_, ap, sym, _∙_}
+-- One offset converted: what it becomes by the stretch that has it. Assumes nothing.
+use mathlib.Core.Path.{_≡_, refl, sym, _∙_}
 use mathlib.Core.Bool.{true}
-use Prim.Native.Nat.{ℕ, _≤_}
+use Prim.Native.Nat.{ℕ, _+_, _-_, _≤_}
 use native.Mathlib.Omega.{arith}
-use mathlib.Core.List.{List}
+use mathlib.Core.List.{List, flatten}
 use lib.ListN.{length, take, length-take}
-use Rattle.chars_text.specs.Characters.{wellFormed, placeOf, starts}
+use Rattle.chars_text.specs.Characters.{wellFormed, starts}
 use Rattle.chars_text.proofs.Starts.{starts-few}
-use Rattle.chars_text.proofs.Texts.{before-starts, before-place, place-inside}
-use Rattle.chars_back.specs.Contracts.{nthStart}
-use Rattle.chars_back.proofs.Nth.{place-nth}
+use Rattle.chars_text.proofs.Texts.{before-starts}
+use Rattle.chars_back.proofs.Nth.{place-nth, nth-inside}
 use Rattle.chars_places.specs.Lengths.{textLargest}
+use Rattle.chars_stretch.specs.declared.Stretch.{Stretch}
+use Rattle.chars_stretch.specs.Contracts.{Holds}
+use Rattle.chars_stretch.proofs.Stretches.{point}
+use Rattle.offsets_trees.specs.declared.Way.{Way}
 use Rattle.offsets_trees.specs.declared.Way.the-variants.{ToCharacters, ToBytes}
-use Rattle.offsets_trees.specs.declared.Fault.the-variants.{Fine}
-use Rattle.offsets_trees.specs.Offsets.{byteFault, charFault}
-use Rattle.offsets_trees.proofs.RoundTrips.{byte-fine, char-fine}
-use Rattle.offsets_write.specs.Contracts.{Converted}
+use Rattle.offsets_trees.specs.Offsets.{convertBy}
+use Rattle.offsets_write.specs.Contracts.{StretchedBy}
 
-module _ (text : List ℕ) (well : wellFormed text ≡ true) (short : length text ≤ textLargest) (offset : ℕ) where
-  pub at-place : (count : ℕ) → byteFault text offset ≡ Fine → count ≡ starts (take offset text) → Converted ToCharacters text offset (record { place = offset; count = count })
-  at-place count fine e =
-      record {
-        marked = record { inside = byte-fine text offset fine .0; counted = e };
-        is = e ∙ sym (before-starts text well offset);
-        fits = omega (arith, e, starts-few (take offset text), length-take offset text, short);
-      }
+module _ (text : List ℕ) (well : wellFormed text ≡ true) where
+  pub stretched-start : (way : Way) → StretchedBy way text (record { from = 0; to = 0; base = 0 })
+  unfolding starts flatten
+  stretched-start ToCharacters = point _ _ 0 0 (omega arith) refl
+  stretched-start ToBytes = point _ _ 0 0 (omega arith) (sym (place-nth text well 0))
 
-  pub at-character : (place : ℕ) → charFault text offset ≡ Fine → place ≡ nthStart offset text → Converted ToBytes text offset (record { place = place; count = offset })
-  at-character place fine e =
-      let there : place ≡ placeOf text offset = e ∙ sym (place-nth text well offset) in
-      let inside : place ≤ length text = rw there (place-inside text well offset (char-fine text offset fine)) in
-      record {
-        marked =
-            record {
-              inside = inside;
-              counted = sym (ap (λ (n : ℕ). starts (take n text)) there ∙ sym (before-starts text well (placeOf text offset)) ∙ before-place text offset (char-fine text offset fine));
-            };
-        is = there;
-        fits = omega (arith, inside, short);
-      }
+  module _ {s : Stretch} (offset : ℕ) (h : Holds s offset) where
+    pub becomes : (way : Way) → StretchedBy way text s → s .base + (offset - s .from) ≡ convertBy way text offset
+    becomes ToCharacters along = sym (along .along offset h) ∙ sym (before-starts text well offset)
+    becomes ToBytes along = sym (along .along offset h) ∙ sym (place-nth text well offset)
+
+    pub fits : (way : Way) → StretchedBy way text s → length text ≤ textLargest → s .base + (offset - s .from) ≤ textLargest
+    fits ToCharacters along short = omega (arith, along .along offset h, starts-few (take offset text), length-take offset text)
+    fits ToBytes along short = omega (arith, along .along offset h, nth-inside offset text)

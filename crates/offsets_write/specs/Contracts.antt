@@ -9,14 +9,15 @@ use Rattle.record.specs.Flat.{rowWidth, rowAt}
 use Rattle.record.specs.Read.{several}
 use Rattle.chars_text.specs.Characters.{wellFormed}
 use Rattle.chars_places.specs.declared.Grain.{Grain}
-use Rattle.chars_places.specs.declared.Mark.{Mark}
-use Rattle.chars_places.specs.Contracts.{Tabled, Marked}
+use Rattle.chars_places.specs.Contracts.{Tabled}
 use Rattle.chars_back.specs.Contracts.{BackTabled}
 use Rattle.chars_places.specs.Lengths.{textLargest}
+use Rattle.chars_stretch.specs.declared.Stretch.{Stretch}
+use Rattle.chars_stretch.specs.Contracts.{charsStretched, placesStretched}
 use Rattle.offsets_trees.specs.declared.Way.{Way}
 use Rattle.offsets_trees.specs.declared.Way.the-variants.{ToCharacters, ToBytes}
 use Rattle.offsets_trees.specs.declared.Fault.the-variants.{Fine}
-use Rattle.offsets_trees.specs.Offsets.{convertBy, faultBy, rowFault, rowsFault}
+use Rattle.offsets_trees.specs.Offsets.{faultBy, rowFault, rowsFault}
 
 -- which table each way needs
 abbrev pub TabledBy : Way → List ℕ → List ℕ → Grain → Type 0
@@ -34,16 +35,10 @@ pub record Accepted (text table : List ℕ) (grain : Grain) (way : Way) (offset 
   pub ready : TableReady way text table grain
   pub fine : faultBy way text offset ≡ Fine
 
--- the one of the two that an offset becomes
-abbrev pub valueBy : Way → Mark → ℕ
-valueBy ToCharacters mark = mark .count
-valueBy ToBytes mark = mark .place
-
--- The mark is one of the text, and what an offset becomes is one of its two numbers.
-pub record Converted (way : Way) (text : List ℕ) (offset : ℕ) (mark : Mark) : Type 0 where
-  pub marked : Marked text mark
-  pub is : valueBy way mark ≡ convertBy way text offset
-  pub fits : valueBy way mark ≤ textLargest
+-- what a stretch of offsets is, by the way
+abbrev pub StretchedBy : Way → List ℕ → Stretch → Type 0
+StretchedBy ToCharacters text stretch = charsStretched text stretch
+StretchedBy ToBytes text stretch = placesStretched text stretch
 
 -- Nothing is wrong with the row at a place.
 pub record RowAccepted (text table : List ℕ) (grain : Grain) (way : Way) (rows : List ℕ) (at : ℕ) : Type 0 where

@@ -1,22 +1,23 @@
--- `convert_row` meets its contract. The loop's invariant, `Columns`: so many offsets of the row are converted, and the last mark is one
+-- `convert_row` meets its contract. The loop's invariant, `Columns`: so many offsets of the row are converted, and the last stretch is one
 -- of the text. Assumes nothing.
 use mathlib.Core.Path.{ap, _∙_}
 use Prim.Native.Nat.{_+_, _-_, _<_}
 use lib.ListN.{length}
 use native.Mathlib.Omega.{arith}
 use denote.Ref.{now}
-use Rattle.chars_places.specs.Contracts.{Marked}
 use Rattle.offsets_trees.specs.Offsets.{convertBy, faultBy}
+use Rattle.offsets_write.specs.Contracts.{StretchedBy}
+use Rattle.offsets_write.proofs.Offset.{becomes, fits}
 use Rattle.offsets_write.proofs.Columns.{Columns, column-fine, columns-start, columns-length, columns-there, columns-next, columns-end}
 use borrow.Author.Needs.{needs}
 use Rattle.offsets_write.proofs.convert_row.Statement.{statement}
 use Rattle.offsets_write.proofs.convert_row.Tie as tie
 
 abbrev Inv-loop : tie.InvT-loop
-Inv-loop way text grain table rows₀ at mark₀ column₀ rows mark column = Columns (convertBy way text) rows₀ at column rows × Marked text mark
+Inv-loop way text grain table rows₀ at stretch₀ column₀ rows stretch column = Columns (convertBy way text) rows₀ at column rows × StretchedBy way text stretch
 
 abbrev μ-loop : tie.MeasureT-loop
-μ-loop way text grain table rows₀ at mark₀ column₀ rows mark column = 2 - column
+μ-loop way text grain table rows₀ at stretch₀ column₀ rows stretch column = 2 - column
 
 -- ---- The places that others look back to
 
@@ -45,8 +46,8 @@ slice-read-wide c = omega (arith, there (c .before))
 wide-requires : tie.Need-wide-requires Inv-loop μ-loop
 wide-requires c κs = search needs
 
-convert-requires : tie.Need-convert-requires Inv-loop μ-loop
-convert-requires c κs =
+stretch-with-requires : tie.Need-stretch-with-requires Inv-loop μ-loop
+stretch-with-requires c κs =
     let at-column = c .before .before in
     let s = start at-column in
     let inv = at-column .before .loop .inv in
@@ -62,7 +63,10 @@ convert-requires c κs =
     )
 
 value-requires : tie.Need-value-requires Inv-loop μ-loop
-value-requires c κs = c .convert .ensures .fits
+value-requires c κs =
+    let s = start (c .before .before .before) in
+    let found = c .stretch-with .ensures in
+    (found .1, fits (now (s .args .text)) (s .pre .0 .ready .well) _ (found .1) (s .args .way) (found .0) (s .pre .0 .ready .short))
 
 mul-rows : tie.Need-mul-rows Inv-loop μ-loop
 mul-rows c = search needs
@@ -80,8 +84,12 @@ loop-again : tie.Need-loop-again Inv-loop μ-loop
 loop-again c =
     let at-column = c .before .before .before .before in
     let s = start at-column in
-    let convert = convertBy (s .args .way) (now (s .args .text)) in
-    (columns-next _ _ _ (at-column .before .loop .inv .0) _ (omega (arith, at-column .loop-test .taken)) (c .value .ensures ∙ c .before .convert .ensures .is ∙ ap convert (c .before .before .wide .ensures)), c .before .convert .ensures .marked)
+    let found = c .before .stretch-with .ensures in
+    let convert = convertBy (s .args .way) (now (s .args .text)) in (
+      columns-next _ _ _ (at-column .before .loop .inv .0) _ (omega (arith, at-column .loop-test .taken))
+          (c .value .ensures ∙ becomes (now (s .args .text)) (s .pre .0 .ready .well) _ (found .1) (s .args .way) (found .0) ∙ ap convert (c .before .before .wide .ensures)),
+      found .0,
+    )
 
 same-length : tie.Need-same-length Inv-loop μ-loop
 same-length c = columns-length _ _ _ (c .before .loop .inv .0)
@@ -101,7 +109,7 @@ convert-row-spec =
     mul-wide
     slice-read-wide
     wide-requires
-    convert-requires
+    stretch-with-requires
     value-requires
     mul-rows
     slice-write-rows

@@ -6,16 +6,16 @@ use native.Mathlib.Omega.{arith}
 use mathlib.Core.List.{List}
 use denote.Ref.{now}
 use Rattle.record.specs.Flat.{rowAt}
-use Rattle.chars_places.specs.Contracts.{Marked}
-use Rattle.chars_places.proofs.Marks.{marked-start}
 use Rattle.offsets_trees.specs.Offsets.{convertBy, faultBy, rowFault}
+use Rattle.offsets_write.specs.Contracts.{StretchedBy}
+use Rattle.offsets_write.proofs.Offset.{stretched-start}
 use Rattle.offsets_write.proofs.Turning.{Turning, row-fine, turning-start, turning-rest, turning-length, turning-next, turning-end}
 use borrow.Author.Needs.{needs}
 use Rattle.offsets_write.proofs.convert_rows.Statement.{statement}
 use Rattle.offsets_write.proofs.convert_rows.Tie as tie
 
 abbrev Inv-loop : tie.InvT-loop
-Inv-loop way text grain table rows₀ count last₀ i₀ rows last i = Turning (convertBy way text) rows₀ count i rows × Marked text last
+Inv-loop way text grain table rows₀ count last₀ i₀ rows last i = Turning (convertBy way text) rows₀ count i rows × StretchedBy way text last
 
 abbrev μ-loop : tie.MeasureT-loop
 μ-loop way text grain table rows₀ count last₀ i₀ rows last i = count - i
@@ -26,7 +26,7 @@ abbrev start : tie.After-convert-row-arg Inv-loop μ-loop → tie.Start Inv-loop
 start c = c .before .before .before .before .before
 
 loop-holds : tie.Need-loop-holds Inv-loop μ-loop
-loop-holds c = (turning-start _ _ _, marked-start _)
+loop-holds c = let s = c .before .before in (turning-start _ _ _, stretched-start (now (s .args .text)) (s .pre .ready .well) (s .args .way))
 
 mul-convert-row : tie.Need-mul-convert-row Inv-loop μ-loop
 mul-convert-row c = let s = start c in omega (arith, s .pre .inside, c .before .loop-test .taken)
