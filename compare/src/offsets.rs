@@ -273,8 +273,14 @@ fn store(r: &mut Rng, way: Way) -> Vec<Stored> {
 // ---- Times
 
 /// The texts that are timed: how many characters there are to a longer one, 0 for none.
-const TEXTS: [(&str, u64); 5] =
-    [("1 in 3 longer", 3), ("1 in 30 longer", 30), ("1 in 100 longer", 100), ("1 in 1000 longer", 1000), ("none longer", 0)];
+const TEXTS: [(&str, u64); 6] = [
+    ("1 in 3 longer", 3),
+    ("1 in 30 longer", 30),
+    ("1 in 100 longer", 100),
+    ("1 in 300 longer", 300),
+    ("1 in 1000 longer", 1000),
+    ("none longer", 0),
+];
 
 /// A text of about so many bytes, with one longer character in so many.
 fn sparse_text(r: &mut Rng, bytes: usize, one_in: u64) -> Vec<u8> {
@@ -306,15 +312,18 @@ fn time_text(r: &mut Rng, way: Way, what: &str, text: &[u8]) {
     let mut random = ordered.clone();
     scatter(r, &mut random, &places, way, 0);
     let mut to = ordered.rows.clone();
-    let check = bench::alone(|| std::str::from_utf8(black_box(text)).is_ok());
-    let copy = bench::alone(|| to.copy_from_slice(black_box(&ordered.rows)));
     for (order, b) in [("in order", &ordered), ("at random", &random)] {
         let mut lent = ours::Lent::new(b.nodes.len(), b.rows.len());
-        let ours = bench::alone(|| lent.convert_offsets(black_box(b), black_box(text), way));
+        // one after the other, so that both find the text and the rows where such a call leaves them
+        let mut check_and_copy = || {
+            to.copy_from_slice(black_box(&b.rows));
+            std::str::from_utf8(black_box(text)).is_ok()
+        };
+        let (ours, least) = bench::both(|| lent.convert_offsets(black_box(b), black_box(text), way), &mut check_and_copy);
         let second = bench::few(11, || rows_of(black_box(b), black_box(text), way));
         let name = format!("{}, {MAX_ROWS} rows, 1 MB, {what}, {order}", name(way));
         bench::row(&name, ours, "second reading", second, "");
-        bench::row(&name, ours, "check and copy", check + copy, "from_utf8 of the text, memory copy of the rows");
+        bench::row(&name, ours, "check and copy", least, "from_utf8 of the text, memory copy of the rows");
     }
 }
 
