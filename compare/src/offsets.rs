@@ -213,6 +213,7 @@ fn compare(t: &mut Tally, r: &mut Rng, count: u64, way: Way) {
         }
     }
     around_blocks(t, r, way);
+    in_stretches(t, r, way);
     // A text that is too long is refused by its length, before a byte of it is read.
     t.case(ours::text_of_length(1 << 32, way) == 16, || ("a text of 2^32 bytes is taken".to_string(), String::new()));
 }
@@ -230,6 +231,36 @@ fn around_blocks(t: &mut Tally, r: &mut Rng, way: Way) {
         case(t, &b, &text, way);
         scatter(r, &mut b, &places, way, 200);
         case(t, &b, &text, way);
+    }
+}
+
+/// Offsets in order, so many characters apart: each row begins where the last one ends.
+fn in_steps(places: &[usize], step: usize, way: Way) -> Batch {
+    let last = places.len() - 1;
+    let offset = |i: usize| if way == Way::ToChars { places[i.min(last)] as u32 } else { i.min(last) as u32 };
+    let offsets: Vec<(u32, u32)> = (0..=last).step_by(step).map(|i| (offset(i), offset(i + step))).collect();
+    with_offsets(&offsets)
+}
+
+/// Texts with plain characters side by side, around as many as are converted together, and with few longer ones among them.
+fn in_stretches(t: &mut Tally, r: &mut Rng, way: Way) {
+    let mut texts: Vec<Vec<u8>> =
+        (0..=50).chain(500..=540).map(|plain| format!("é{}€{}", "x".repeat(plain), "y".repeat(20)).into_bytes()).collect();
+    for one_in in [3, 10, 30, 100, 300, 1000] {
+        texts.extend((0..10).map(|_| {
+            let bytes = 600 + r.below(6000) as usize;
+            sparse_text(r, bytes, one_in)
+        }));
+    }
+    for text in texts {
+        let places = places(&text).expect("a text of characters");
+        for step in [1, 2, 7, 16, 40, 70, 600] {
+            let mut b = in_steps(&places, step, way);
+            case(t, &b, &text, way);
+            let row = r.below((b.rows.len() / ROW) as u64) as usize;
+            b.rows[row * ROW + OFFSETS[r.below(2) as usize]] = random_offset(r, &places, way, true);
+            case(t, &b, &text, way);
+        }
     }
 }
 
