@@ -8,7 +8,7 @@ ghost use Rattle.chars_count.specs.Contracts.{blockBytes, byteLargest};
 ghost use Rattle.chars_check.specs.Contracts.{longs, Walked, PlainSkipped, Passed};
 use chars_count::BLOCK;
 
-// Up to how many bytes of longer characters in a block are few: those of four.
+// From how many bytes on a block's longer characters are not few: one more than four of them have at most.
 const FEW: u8 = 17;
 
 // How many bytes of a block are no characters by themselves. They are counted in a byte, so that the compiler adds many at once.

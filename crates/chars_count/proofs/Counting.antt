@@ -1,15 +1,15 @@
 -- Counting byte by byte within a block, and block by block within a text. Assumes nothing.
-use mathlib.Core.Path.{_≡_, ap, sym, _∙_}
+use mathlib.Core.Path.{_≡_}
 use mathlib.Core.Bool.{Bool, true, false, cond}
 use Prim.Native.Nat.{ℕ, suc, _+_, _-_, _≤_, _<_}
 use native.Mathlib.Numerals.{add-one}
 use native.Mathlib.Omega.{arith}
 use mathlib.Core.List.{List, _∷_}
 use lib.ListN.{length, getD, take, drop, drop-of-length-le, length-take}
-use lib.Seq.{drop-cons, drop-drop, take-add}
+use lib.Seq.{drop-cons}
 use Rattle.chars_text.specs.Utf8.{tail}
 use Rattle.chars_text.specs.Characters.{starts}
-use Rattle.chars_text.proofs.Starts.{starts-append, starts-few}
+use Rattle.chars_text.proofs.Starts.{starts-between, starts-few}
 use Rattle.chars_count.specs.Contracts.{startOf}
 
 starts-first : (byte : ℕ) (text : List ℕ) → starts (byte ∷ text) ≡ startOf byte + starts text
@@ -71,17 +71,10 @@ module _ {text : List ℕ} {from to at count : ℕ} (a : Adding text from to at 
 
   pub adding-more : (end more : ℕ) → at ≤ end → end ≤ to → more ≡ starts (take (end - at) (drop at text)) → Adding text from to end (count + more)
   adding-more end more onward inside e =
-      let split : end - from ≡ (at - from) + (end - at) = omega (arith, a .onward) in
-      let here : from + (at - from) ≡ at = omega (arith, a .onward) in
       record {
         onward = omega (arith, a .onward);
         inside = inside;
-        all =
-            ap (λ (n : ℕ). n + more) (a .all)
-            ∙ ap (_+_ (starts (take (at - from) (drop from text)))) (e ∙ ap (λ (n : ℕ). starts (take (end - at) (drop n text))) (sym here) ∙ ap (λ (l : List ℕ). starts (take (end - at) l)) (sym (drop-drop (at - from) from text)))
-            ∙ sym (starts-append (take (at - from) (drop from text)) (take (end - at) (drop (at - from) (drop from text))))
-            ∙ ap starts (sym (take-add (at - from) (end - at) (drop from text)))
-            ∙ ap (λ (n : ℕ). starts (take n (drop from text))) (sym split);
+        all = omega (arith, a .all, e, starts-between text from at end (a .onward) onward);
       }
 
   -- and of what is left

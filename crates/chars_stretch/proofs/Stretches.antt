@@ -5,10 +5,9 @@ use Prim.Native.Nat.{ℕ, _+_, _-_, _≤_, _<_}
 use native.Mathlib.Omega.{arith}
 use mathlib.Core.List.{List, [], _∷_}
 use lib.ListN.{length, take, drop, length-take}
-use lib.Seq.{drop-drop}
 use Rattle.chars_text.specs.Utf8.{tail}
 use Rattle.chars_text.specs.Characters.{starts}
-use Rattle.chars_text.proofs.Starts.{starts-on, starts-few, starts-rest, starts-here}
+use Rattle.chars_text.proofs.Starts.{starts-on, starts-between, starts-few, starts-rest, starts-here}
 use Rattle.chars_places.specs.declared.Mark.{Mark}
 use Rattle.chars_places.specs.Contracts.{Marked}
 use Rattle.chars_back.specs.Contracts.{nthStart}
@@ -30,15 +29,10 @@ pub one-part-more : {text : List ℕ} {from to : ℕ} → StartsUpTo text from t
     → StartsUpTo text from end
 one-part-more {text} {from} {to} u end count onward inside counted many =
     let part = take (end - to) (drop to text) in
-    let split : end - from ≡ (to - from) + (end - to) = omega (arith, u .onward) in
-    let there : from + (to - from) ≡ to = omega (arith, u .onward) in
-    let on = starts-on (drop from text) (to - from) (end - to) in
-    let rest : starts (take (end - to) (drop (to - from) (drop from text))) ≡ end - to
-    = ap (λ (l : List ℕ). starts (take (end - to) l)) (drop-drop (to - from) from text ∙ ap (λ (n : ℕ). drop n text) there) ∙ omega (arith, counted, many, starts-few part, length-take (end - to) (drop to text)) in
     record {
       onward = omega (arith, u .onward);
       inside = inside;
-      all = ap (λ (n : ℕ). starts (take n (drop from text))) split ∙ on ∙ omega (arith, u .all, rest, split);
+      all = omega (arith, u .onward, u .all, counted, many, starts-few part, length-take (end - to) (drop to text), starts-between text from to end (u .onward) onward);
     }
 
 -- ---- Places and characters together

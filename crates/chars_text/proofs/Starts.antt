@@ -2,11 +2,11 @@
 -- Assumes nothing.
 use mathlib.Core.Path.{_≡_, refl, ap, sym, _∙_}
 use mathlib.Core.Bool.{Bool, true, false, cond}
-use Prim.Native.Nat.{ℕ, zero, suc, _+_, _≤_}
+use Prim.Native.Nat.{ℕ, zero, suc, _+_, _-_, _≤_}
 use native.Mathlib.Omega.{arith}
 use mathlib.Core.List.{List, [], _∷_, _++_}
 use lib.ListN.{length, take, drop, take-append-drop}
-use lib.Seq.{take-add}
+use lib.Seq.{drop-drop, take-add}
 use Rattle.chars_text.specs.Utf8.{tail}
 use Rattle.chars_text.specs.Characters.{starts}
 use Rattle.chars_text.proofs.Led.{Tails, Led}
@@ -34,6 +34,16 @@ starts-few (b ∷ text) = go (tail b) (starts-few text)
 -- what is counted up to a place, and on from there
 pub starts-on : (text : List ℕ) (at n : ℕ) → starts (take (at + n) text) ≡ starts (take at text) + starts (take n (drop at text))
 starts-on text at n = rw (take-add at n text) (starts-append (take at text) (take n (drop at text)))
+
+-- the same between two places, by way of a third
+pub starts-between : (text : List ℕ) (from mid end : ℕ) → from ≤ mid → mid ≤ end
+    → starts (take (end - from) (drop from text)) ≡ starts (take (mid - from) (drop from text)) + starts (take (end - mid) (drop mid text))
+starts-between text from mid end onward farther =
+    let split : end - from ≡ (mid - from) + (end - mid) = omega arith in
+    let there : from + (mid - from) ≡ mid = omega arith in
+    ap (λ (n : ℕ). starts (take n (drop from text))) split
+    ∙ starts-on (drop from text) (mid - from) (end - mid)
+    ∙ ap (λ (l : List ℕ). starts (take (mid - from) (drop from text)) + starts (take (end - mid) l)) (drop-drop (mid - from) from text ∙ ap (λ (n : ℕ). drop n text) there)
 
 -- what is counted before a place, and after it
 pub starts-rest : (text : List ℕ) (at : ℕ) → starts text ≡ starts (take at text) + starts (drop at text)
