@@ -203,10 +203,16 @@ const HEADER_END: &str = "
 #endif
 ";
 
-/// The refusals and their numbers, from the lines `Refusal::Name => number,` of a source.
+/// The refusals and their numbers, in the order of these, from the lines `Refusal::Name => number,` of a source, and from
+/// `Why::Name => number,` for the one that has several.
 pub fn refusals(source: &str) -> Vec<(String, u32)> {
-    let arms = source.lines().filter_map(|line| line.trim().strip_prefix("Refusal::")?.strip_suffix(',')?.split_once(" => "));
-    arms.filter_map(|(name, number)| Some((name.to_string(), number.parse().ok()?))).collect()
+    let arms = source.lines().map(str::trim).filter_map(|line| {
+        let named = line.strip_prefix("Refusal::").or_else(|| line.strip_prefix("Why::"))?;
+        named.strip_suffix(',')?.split_once(" => ")
+    });
+    let mut all: Vec<_> = arms.filter_map(|(name, number)| Some((name.to_string(), number.parse().ok()?))).collect();
+    all.sort_by_key(|(_, number)| *number);
+    all
 }
 
 /// `NameOfARefusal` as C writes a constant.

@@ -29,7 +29,6 @@ enum noddrefyr_refusal {
     NODDREFYR_SECOND_MISSING = 4,
     NODDREFYR_TOO_SHORT = 5,
     NODDREFYR_OFFSET_TOO_LARGE = 6,
-    NODDREFYR_PART_UNREADABLE = 7,
     NODDREFYR_TEMPLATE_TOO_LONG = 8,
     NODDREFYR_PAIR_LACKS_A_OR_B = 9,
     NODDREFYR_SPECIAL_ID_UNKNOWN = 10,
@@ -41,6 +40,9 @@ enum noddrefyr_refusal {
     NODDREFYR_NOT_TEXT = 16,
     NODDREFYR_OFFSET_PAST_END = 17,
     NODDREFYR_OFFSET_INSIDE_CHARACTER = 18,
+    NODDREFYR_MORE_THAN_ONE_COLON = 19,
+    NODDREFYR_BAD_TYPE_NUMBER = 20,
+    NODDREFYR_UNKNOWN_SEQUENCE_NAME = 21,
 };
 
 /* Whether two slices are a well-formed batch (else 1), and the number of its encodings at the top. */
@@ -246,14 +248,18 @@ uint32_t noddrefyr_pad_encodings(
     size_t written[2]);
 
 /* The pieces of a template text, kind (0 A, 1 B, 2 special), type, id start and id length in the text of each, spare ones zero,
-   and their number. Refused with 8, 7. */
+   and their number. Refused with 8, 19, 20, 21; with the last three fault is the number of the part at fault and the place of its
+   first byte in the text, both from 0, and else it stays as it was. */
 uint32_t noddrefyr_read_template(
     const uint8_t *text, size_t text_len,
     uint32_t pieces[256],
-    size_t *count);
+    size_t *count,
+    size_t fault[2]);
 
 /* Whether a template for one encoding and one for a pair can be used with a special table. One that is not set is `$0`, or
-   `$A:0 $B:1`, whatever its text. Refused with 15, 12, then 8 and 7 for the single, 8 and 7 for the pair, 9, 10. */
+   `$A:0 $B:1`, whatever its text. Refused with 15, 12, then 8, 19, 20, 21 for the single, 8, 19, 20, 21 for the pair, 9, 10. With
+   19 to 21 fault is the template (0 the single, 1 the pair), the number of its part at fault and the place of that part's first byte,
+   both from 0, and else it stays as it was. */
 uint32_t noddrefyr_validate(
     bool single_set,
     const uint8_t *single, size_t single_len,
@@ -261,10 +267,12 @@ uint32_t noddrefyr_validate(
     const uint8_t *pair, size_t pair_len,
     const uint32_t *entries, size_t entries_len,
     const uint32_t *members, size_t members_len,
-    const uint8_t *added, size_t added_len);
+    const uint8_t *added, size_t added_len,
+    size_t fault[3]);
 
 /* How many tokens a template adds, where an unknown special id adds none; one that is not set is `$0`, or `$A:0 $B:1` if it is
-   the pair's. Refused with 15, 12, 8, 7. */
+   the pair's. Refused with 15, 12, 8, 19, 20, 21; with the last three fault is the number of the part at fault and the place of its
+   first byte in the text, both from 0, and else it stays as it was. */
 uint32_t noddrefyr_count_added(
     bool set,
     const uint8_t *text, size_t text_len,
@@ -272,12 +280,14 @@ uint32_t noddrefyr_count_added(
     const uint32_t *entries, size_t entries_len,
     const uint32_t *members, size_t members_len,
     const uint8_t *added, size_t added_len,
-    uint64_t *count);
+    uint64_t *count,
+    size_t fault[2]);
 
 /* One or two encodings put together as the template for one or for two says, special tokens added or left out, written to the
    output; written is its nodes and its rows. Encoding i gets sequence id i; a template that is not set is `$0`, or
-   `$A:0 $B:1`. The working store takes as much as the output and is all zeros afterwards. Refused with 1, 15, 12, 8, 7, 11
-   (B without a second encoding), 10 (only where special tokens are added), 2. */
+   `$A:0 $B:1`. The working store takes as much as the output and is all zeros afterwards. Refused with 1, 15, 12, 8, 19,
+   20, 21, 11 (B without a second encoding), 10 (only where special tokens are added), 2; with 19 to 21 fault is the number of the
+   part at fault of the template used and the place of its first byte, both from 0, and else it stays as it was. */
 uint32_t noddrefyr_process(
     const uint32_t *nodes, size_t nodes_len,
     const uint32_t *rows, size_t rows_len,
@@ -293,7 +303,8 @@ uint32_t noddrefyr_process(
     uint32_t *out_rows, size_t out_rows_len,
     uint32_t *working_nodes, size_t working_nodes_len,
     uint32_t *working_rows, size_t working_rows_len,
-    size_t written[2]);
+    size_t written[2],
+    size_t fault[2]);
 
 /* A batch whose offsets are places of bytes in a text, with the number of characters before each in its place, written to the output;
    written is its nodes and its rows. The text is in UTF-8. Refused with 1, 16, then 17 or 18 by the first row concerned, 2. */

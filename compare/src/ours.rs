@@ -6,8 +6,11 @@ mod bindings {
     include!(concat!(env!("OUT_DIR"), "/bindings.rs"));
 }
 
-/// What a lent number holds before a call, and must hold after a refusal.
+/// What a lent number holds before a call, and must hold after it where nothing is told through it.
 pub const BEFORE: u32 = 0xDEAD_BEEF;
+
+/// A part at fault and its place, as they are where none is told.
+pub const NO_FAULT: [usize; 2] = [BEFORE as usize; 2];
 
 /// The refusal, 0 for none, and the lent numbers after the call.
 pub type Answer = (u32, Vec<u32>);
@@ -110,7 +113,7 @@ impl Lent {
         }
     }
 
-    pub fn process(&mut self, b: &Batch, templates: Templates, table: Table, add_special_tokens: bool, working: &mut Batch) -> u32 {
+    pub fn process(&mut self, b: &Batch, templates: Templates, table: Table, add_special_tokens: bool, working: &mut Batch, fault: &mut [usize; 2]) -> u32 {
         let (bn, br, n, r) = (&b.nodes, &b.rows, &mut self.out.nodes, &mut self.out.rows);
         let (single, pair, wn, wr) = (templates.single, templates.pair, &mut working.nodes, &mut working.rows);
         let Table { entries, members, added } = table;
@@ -119,7 +122,7 @@ impl Lent {
             bindings::noddrefyr_process(
                 bn.as_ptr(), bn.len(), br.as_ptr(), br.len(), templates.single_set, single.as_ptr(), single.len(), templates.pair_set, pair.as_ptr(), pair.len(),
                 entries.as_ptr(), entries.len(), members.as_ptr(), members.len(), added.as_ptr(), added.len(), add_special_tokens,
-                n.as_mut_ptr(), n.len(), r.as_mut_ptr(), r.len(), wn.as_mut_ptr(), wn.len(), wr.as_mut_ptr(), wr.len(), counts,
+                n.as_mut_ptr(), n.len(), r.as_mut_ptr(), r.len(), wn.as_mut_ptr(), wn.len(), wr.as_mut_ptr(), wr.len(), counts, fault.as_mut_ptr(),
             )
         }
     }
@@ -270,12 +273,14 @@ pub fn text(b: &Batch, row: u32, tokens: &[u8], added: &[u8]) -> Answer {
     (refusal, answer)
 }
 
-/// What reading a template gives: the refusal, the number of pieces and the numbers of all that there is room for.
+/// What reading a template gives: the refusal, the number of pieces and the numbers of all that there is room for; the part at
+/// fault and its place.
 #[derive(Clone, PartialEq, Eq, Debug)]
 pub struct Template {
     pub refusal: u32,
     pub count: usize,
     pub pieces: Vec<u32>,
+    pub fault: [usize; 2],
 }
 
 /// The numbers of the pieces that a template may have.
@@ -283,16 +288,16 @@ pub const PIECES: usize = 256;
 
 pub fn read_template(text: &[u8]) -> Template {
     let mut pieces = vec![BEFORE; PIECES];
-    let (refusal, count) = read_template_into(text, &mut pieces);
-    Template { refusal, count, pieces }
+    let (refusal, count, fault) = read_template_into(text, &mut pieces);
+    Template { refusal, count, pieces, fault }
 }
 
 /// The same, in pieces that can be lent again and again.
-pub fn read_template_into(text: &[u8], pieces: &mut [u32]) -> (u32, usize) {
+pub fn read_template_into(text: &[u8], pieces: &mut [u32]) -> (u32, usize, [usize; 2]) {
     assert_eq!(pieces.len(), PIECES);
-    let mut count = BEFORE as usize;
-    let refusal = unsafe { bindings::noddrefyr_read_template(text.as_ptr(), text.len(), pieces.as_mut_ptr(), &mut count) };
-    (refusal, count)
+    let (mut count, mut fault) = (BEFORE as usize, NO_FAULT);
+    let refusal = unsafe { bindings::noddrefyr_read_template(text.as_ptr(), text.len(), pieces.as_mut_ptr(), &mut count, fault.as_mut_ptr()) };
+    (refusal, count, fault)
 }
 
 /// A special table with the pool of its texts.
@@ -312,33 +317,44 @@ pub struct Templates<'a> {
     pub pair: &'a [u8],
 }
 
-/// The refusal, 0 for none.
-pub fn validate(templates: Templates, table: Table) -> u32 {
+/// The refusal, 0 for none, and the template, its part at fault and that part's place.
+pub fn validate(templates: Templates, table: Table) -> (u32, [usize; 3]) {
     let (single, pair) = (templates.single, templates.pair);
     let Table { entries, members, added } = table;
-    unsafe {
+    let mut fault = [BEFORE as usize; 3];
+    let refusal = unsafe {
         bindings::noddrefyr_validate(
             templates.single_set, single.as_ptr(), single.len(), templates.pair_set, pair.as_ptr(), pair.len(),
-            entries.as_ptr(), entries.len(), members.as_ptr(), members.len(), added.as_ptr(), added.len(),
+            entries.as_ptr(), entries.len(), members.as_ptr(), members.len(), added.as_ptr(), added.len(), fault.as_mut_ptr(),
         )
-    }
+    };
+    (refusal, fault)
 }
 
-/// The refusal, 0 for none, and the number of tokens that a template adds.
-pub fn count_added(set: bool, text: &[u8], is_pair: bool, table: Table) -> (u32, u64) {
+/// The refusal, 0 for none, the number of tokens that a template adds, and the part at fault and its place.
+pub fn count_added(set: bool, text: &[u8], is_pair: bool, table: Table) -> (u32, u64, [usize; 2]) {
     let Table { entries, members, added } = table;
-    let mut count = BEFORE as u64;
+    let (mut count, mut fault) = (BEFORE as u64, NO_FAULT);
     let refusal = unsafe {
         bindings::noddrefyr_count_added(
             set, text.as_ptr(), text.len(), is_pair, entries.as_ptr(), entries.len(), members.as_ptr(), members.len(), added.as_ptr(), added.len(), &mut count,
+            fault.as_mut_ptr(),
         )
     };
-    (refusal, count)
+    (refusal, count, fault)
+}
+
+/// What processing leaves in the output and the working store, and the part at fault of the template used and its place.
+#[derive(Clone, PartialEq, Eq, Debug)]
+pub struct Processed {
+    pub folded: Folded,
+    pub fault: [usize; 2],
 }
 
 /// In an output and a working store of so many numbers.
-pub fn process(b: &Batch, templates: Templates, table: Table, add_special_tokens: bool, sizes: [usize; 4]) -> Folded {
+pub fn process(b: &Batch, templates: Templates, table: Table, add_special_tokens: bool, sizes: [usize; 4]) -> Processed {
     let mut working = Batch { nodes: vec![BEFORE; sizes[2]], rows: vec![BEFORE; sizes[3]] };
-    let output = Lent::new(sizes[0], sizes[1]).told(|lent| lent.process(b, templates, table, add_special_tokens, &mut working));
-    Folded { output, working }
+    let mut fault = NO_FAULT;
+    let output = Lent::new(sizes[0], sizes[1]).told(|lent| lent.process(b, templates, table, add_special_tokens, &mut working, &mut fault));
+    Processed { folded: Folded { output, working }, fault }
 }

@@ -2,12 +2,12 @@
 //! refusal beside every other. Where the Rust would panic, an independent reading says so first.
 use crate::inputs::{self, chain, exact};
 use crate::merging::{self, expected_fold, joined, stores, Joined, ALL_STORES, STORED};
-use crate::ours::{self, Folded, Lent, Templates, BEFORE};
+use crate::ours::{self, Lent, Processed, Templates, BEFORE, NO_FAULT};
 use crate::outputs::{counts, stored};
 use crate::tables::{self, faulty_tables, table_of, Table};
 use crate::tally::{Line, Stored, Tally, LENT};
-use crate::template_inputs::{all_faults, all_of, both, random_texts, Texts, PAIR, SINGLE};
-use crate::template_text::{self, characters, MAX_PARTS};
+use crate::template_inputs::{all_faults, all_of, both, random_texts, Texts, AT_FAULT, PAIR, SINGLE};
+use crate::template_text::{self, characters, Refused, MAX_PARTS};
 use crate::templates::bytes;
 use crate::{bench, wellformed, Operation};
 use std::hint::black_box;
@@ -18,7 +18,7 @@ use tokenizers::{Encoding, PostProcessor, Token};
 
 pub const OPERATION: Operation = Operation {
     name: "process",
-    format: "26 nodes rows add single-set pair-set left entries members single pair added refusal nodes rows out-nodes out-rows (texts and pool as lists of bytes; left: what each number of the working store is after the call, which has 2,048 of each kind)",
+    format: "26 nodes rows add single-set pair-set left part place entries members single pair added refusal nodes rows out-nodes out-rows (texts and pool as lists of bytes; left: what each number of the working store is after the call, which has 2,048 of each kind; part and place of the first part at fault of the template used, told with 19 to 21)",
     compare,
     store,
     bench: times,
@@ -55,9 +55,9 @@ fn size(text: &[u8], pieces: &[template_text::Piece], encodings: &[Encoding], to
     Ok(counts(&[so_far]))
 }
 
-/// The Rust's result, or the refusal: "1, 15, 12, 8, 7 (the template used), 11, 10 only when special tokens are added, 2".
-fn result(q: &Asked) -> Result<Joined, u32> {
-    let (Some(1 | 2), b) = (wellformed::top_encodings(&q.batch.nodes, &q.batch.rows), q.batch) else { return Err(1) };
+/// The Rust's result, or the refusal: 1, 15, 12, 8, 19 to 21 (the template used), 11, 10 only when special tokens are added, 2.
+fn result(q: &Asked) -> Result<Joined, Refused> {
+    let (Some(1 | 2), b) = (wellformed::top_encodings(&q.batch.nodes, &q.batch.rows), q.batch) else { return Err(1.into()) };
     let mut encodings = from_batch(&b.nodes, &b.rows);
     let is_pair = encodings.len() == 2;
     let tokens = tables::tokens(q.table)?;
@@ -67,11 +67,11 @@ fn result(q: &Asked) -> Result<Joined, u32> {
     };
     let (pieces, template) = template_text::read(text)?;
     if !is_pair && pieces.iter().any(|piece| piece.kind == 1) {
-        return Err(11);
+        return Err(11.into());
     }
     let known = |piece: &template_text::Piece| piece.kind != 2 || tokens.0.contains_key(&characters(piece.id(text)));
     if q.add && !pieces.iter().all(known) {
-        return Err(10);
+        return Err(10.into());
     }
     let size = size(text, &pieces, &encodings, &tokens, q.add)?;
     // a template that is not set stays the builder's own, and validate is not asked
@@ -88,27 +88,42 @@ fn result(q: &Asked) -> Result<Joined, u32> {
     Ok(Joined { encoding, fits: true })
 }
 
-fn line(q: &Asked, want: &Folded) -> Line {
+/// The result or the number of the refusal, and the part at fault and its place.
+fn told(q: &Asked) -> (Result<Joined, u32>, Option<[usize; 2]>) {
+    match result(q) {
+        Ok(joined) => (Ok(joined), None),
+        Err(refused) => (Err(refused.number), refused.fault),
+    }
+}
+
+/// What they leave in stores of these sizes and in the numbers of the fault, each `before` at first.
+fn expected((result, fault): &(Result<Joined, u32>, Option<[usize; 2]>), sizes: [usize; 4], before: u32) -> Processed {
+    Processed { folded: expected_fold(result, sizes, before), fault: fault.unwrap_or([before as usize; 2]) }
+}
+
+fn line(q: &Asked, want: &Processed) -> Line {
     let (b, templates, table) = (q.batch, q.templates, q.table);
+    let (left, [part, place]) = (want.folded.working.nodes.first().copied().unwrap_or(0), want.fault);
     let line = Line::of(26).list(&b.nodes).list(&b.rows).number(q.add as u32).number(templates.single_set as u32).number(templates.pair_set as u32);
-    let line = line.number(want.working.nodes.first().copied().unwrap_or(0)).list(table.entries).list(table.members);
-    stored(line.list(&bytes(templates.single)).list(&bytes(templates.pair)).list(&bytes(table.added)), &want.output)
+    let line = line.number(left).early(part as u32).early(place as u32).list(table.entries).list(table.members);
+    stored(line.list(&bytes(templates.single)).list(&bytes(templates.pair)).list(&bytes(table.added)), &want.folded.output)
 }
 
 /// What validate accepts is refused only for its batch, for want of room, and for B where there is no second encoding.
 fn as_validated(q: &Asked, refusal: u32) -> bool {
     let single = || wellformed::top_encodings(&q.batch.nodes, &q.batch.rows) == Some(1);
-    [0, 1, 2].contains(&refusal) || ours::validate(q.templates, q.table) != 0 || (refusal == 11 && single())
+    [0, 1, 2].contains(&refusal) || ours::validate(q.templates, q.table).0 != 0 || (refusal == 11 && single())
 }
 
 fn case_one(t: &mut Tally, q: &Asked, which: &[usize]) {
-    let result = result(q);
+    let told = told(q);
     for &i in which {
-        let sizes = stores(&result, i);
+        let sizes = stores(&told.0, i);
         let got = ours::process(q.batch, q.templates, q.table, q.add, sizes);
-        let want = expected_fold(&result, sizes, BEFORE);
-        let same = got == want && as_validated(q, got.output.refusal);
-        t.case(same, || (format!("ours gave refusal {}", got.output.refusal), line(q, &want)));
+        let want = expected(&told, sizes, BEFORE);
+        let refusal = got.folded.output.refusal;
+        let same = got == want && as_validated(q, refusal);
+        t.case(same, || (format!("ours gave refusal {refusal}, fault {:?}", got.fault), line(q, &want)));
     }
 }
 
@@ -172,6 +187,15 @@ fn at_limits() -> Vec<(Batch, String)> {
 
 const PARTS: [&str; 7] = ["$A", "$B:1", "$7", "[SEP]", "[CLS]:3", "", "$B"];
 
+/// Parts at fault among others in the template used; the other one cannot be read either, and is not.
+fn at_fault(t: &mut Tally) {
+    let (one, two) = (marked(&[(2, 0)]), marked(&[(1, 0), (2, 0)]));
+    for text in all_of(&["$A", "$B", "", "[SEP]", "x", "::", "x:", "$C"], 3) {
+        case(t, &one, &both(&text, b"$x:1"), &tables::usual(), &[0]);
+        case(t, &two, &both(b"$x:1", &text), &tables::usual(), &[0]);
+    }
+}
+
 fn compare(t: &mut Tally, r: &mut Rng, count: u64) {
     let usual = tables::usual();
     let mut malformed = exact(&[(2, 0), (1, 0)]);
@@ -182,6 +206,7 @@ fn compare(t: &mut Tally, r: &mut Rng, count: u64) {
             batches.iter().for_each(|b| case(t, b, &texts, &table, &[0]));
         }
     }
+    at_fault(t);
     for (i, b) in shapes().iter().enumerate() {
         let most = if b.nodes.len() <= 3 * NODE { 4 } else { 3 };
         for (j, text) in all_of(&PARTS, most).iter().enumerate() {
@@ -221,22 +246,25 @@ fn is_small(result: &Result<Joined, u32>) -> bool {
     })
 }
 
+/// A case to store, unless it is too large.
+fn kept(batch: &Batch, texts: &Texts, table: &Table, add: bool, which: usize) -> Option<Stored> {
+    let q = Asked { batch, templates: texts.lent(), table: table.lent(), add };
+    let told = told(&q);
+    if !is_small(&told.0) {
+        return None;
+    }
+    let [nodes, rows, _, _] = stores(&told.0, which);
+    let want = expected(&told, [nodes, rows, STORED, STORED], LENT);
+    let what = match want.folded.output.refusal {
+        0 => format!("special tokens {}", if add { "added" } else { "left out" }),
+        refusal => format!("refused with {refusal}"),
+    };
+    Some(Stored { what, line: line(&q, &want) })
+}
+
 fn store(r: &mut Rng) -> Vec<Stored> {
     let mut out = vec![];
-    let mut keep = |batch: &Batch, texts: &Texts, table: &Table, add: bool, which: usize| {
-        let q = Asked { batch, templates: texts.lent(), table: table.lent(), add };
-        let result = result(&q);
-        if !is_small(&result) {
-            return;
-        }
-        let [nodes, rows, _, _] = stores(&result, which);
-        let want = expected_fold(&result, [nodes, rows, STORED, STORED], LENT);
-        let what = match want.output.refusal {
-            0 => format!("special tokens {}", if add { "added" } else { "left out" }),
-            refusal => format!("refused with {refusal}"),
-        };
-        out.push(Stored { what, line: line(&q, &want) });
-    };
+    let mut keep = |batch: &Batch, texts: &Texts, table: &Table, add: bool, which: usize| out.extend(kept(batch, texts, table, add, which));
     let (one, two) = (marked(&[(2, 1), (1, 0)]), marked(&[(2, 1), (1, 0), (1, 2), (1, 0), (2, 0)]));
     let usual = tables::usual();
     for (i, b) in [&one, &two].into_iter().enumerate() {
@@ -246,9 +274,15 @@ fn store(r: &mut Rng) -> Vec<Stored> {
             keep(b, &both(b"", b""), &usual, add, 0);
             keep(b, &both(b"$B [SEP] $1", b"$B $B:2 x"), &usual, add, 1);
         }
-        keep(b, &both(b"$A:", b"$B:x"), &usual, true, 0);
         faulty_tables()[1..].iter().for_each(|table| keep(b, &both(SINGLE.as_bytes(), PAIR.as_bytes()), table, true, 0));
         keep(b, &both(SINGLE.as_bytes(), PAIR.as_bytes()), &usual, true, 2 + i);
+    }
+    // each reason for one encoding and for a pair in turn; the other template is not read
+    for (i, text) in AT_FAULT.iter().enumerate() {
+        match i / 3 % 2 {
+            0 => keep(&exact(&[(1, 0)]), &both(text.as_bytes(), b"$A $B"), &usual, i % 2 == 0, 0),
+            _ => keep(&exact(&[(1, 0); 2]), &both(b"$x:y", text.as_bytes()), &usual, i % 2 == 0, 0),
+        }
     }
     keep(&exact(&[(1, 0); 3]), &both(b"$A", b"$A $B"), &usual, true, 0);
     keep(&one, &both(&b"$A ".repeat(MAX_PARTS), b""), &usual, false, 0);
@@ -280,7 +314,9 @@ fn times() {
         let [nodes, rows] = counts(&[processed(encodings.clone())]);
         let mut lent = Lent::new(nodes * NODE, rows * ROW);
         let mut working = Batch { nodes: vec![0; nodes * NODE], rows: vec![0; rows * ROW] };
-        let ours = bench::alone(|| assert_eq!(lent.process(black_box(&b), texts.lent(), table.lent(), true, &mut working), 0));
+        let mut fault = NO_FAULT;
+        let ours = bench::alone(|| assert_eq!(lent.process(black_box(&b), texts.lent(), table.lent(), true, &mut working, &mut fault), 0));
+        assert_eq!(fault, NO_FAULT);
         let rust = bench::once(&encodings, processed);
         let kept = bench::once(&(), |()| processed(encodings.clone()));
         merging::row(what, ours, rust, kept, rows);

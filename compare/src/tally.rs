@@ -12,13 +12,15 @@ pub struct Line {
     numbers: Vec<u32>,
     /// the places of the refusal and the lent numbers after it; a list may follow
     answer: Range<usize>,
+    /// the places of lent numbers that stand among the inputs
+    early: Vec<usize>,
     /// the place of the last number that is no list's length
     last: usize,
 }
 
 impl Line {
     pub fn of(operation: u32) -> Line {
-        Line { numbers: vec![operation], answer: 0..0, last: 0 }
+        Line { numbers: vec![operation], answer: 0..0, early: vec![], last: 0 }
     }
 
     pub fn list(mut self, numbers: &[u32]) -> Line {
@@ -32,10 +34,22 @@ impl Line {
         self
     }
 
+    /// What a lent number is after the call, among the inputs.
+    pub fn early(mut self, left: u32) -> Line {
+        self.early.push(self.numbers.len());
+        self.number(left)
+    }
+
     /// A refusal and the lent numbers, which it leaves alone.
     pub fn answer(self, refusal: u32, values: &[u32]) -> Line {
+        let left: Vec<u32> = values.iter().map(|x| if refusal == 0 { *x } else { LENT }).collect();
+        self.answer_left(refusal, &left)
+    }
+
+    /// A refusal and what each lent number is after the call, where it may tell something beside its own number.
+    pub fn answer_left(self, refusal: u32, left: &[u32]) -> Line {
         let start = self.numbers.len();
-        let mut line = values.iter().fold(self.number(refusal), |line, x| line.number(if refusal == 0 { *x } else { LENT }));
+        let mut line = left.iter().fold(self.number(refusal), |line, x| line.number(*x));
         line.answer = start..line.numbers.len();
         line
     }
@@ -48,28 +62,41 @@ impl Line {
         line
     }
 
-    /// How many numbers other than 0 its answers have, none where it is refused.
-    fn told(&self) -> usize {
-        let refused = !self.answer.is_empty() && self.numbers[self.answer.start] != 0;
-        if refused { 0 } else { self.numbers[self.answer.start..].iter().filter(|x| **x != 0).count() }
+    /// Its refusal, 0 for none.
+    fn refusal(&self) -> u32 {
+        if self.answer.is_empty() { 0 } else { self.numbers[self.answer.start] }
     }
 
-    /// Lines made of this one that the replay program must find, each with what is wrong with it and what is said of it.
-    fn wrong(&self) -> Vec<(String, Line, &'static str)> {
+    /// How many numbers other than 0 its answers have, none where it is refused.
+    fn told(&self) -> usize {
+        if self.refusal() != 0 { 0 } else { self.numbers[self.answer.start..].iter().filter(|x| **x != 0).count() }
+    }
+
+    /// This line with another number in one of its answers, for each of them.
+    fn changed(&self) -> Vec<Wrong> {
         let changed = |at: usize| {
             let mut line = self.clone();
             line.numbers[at] = line.numbers[at].wrapping_add(1);
             line
         };
+        let answers = self.early.iter().copied().chain(self.answer.clone());
+        let answers = answers.chain((!self.answer.contains(&self.last)).then_some(self.last));
+        answers.map(|at| (format!("another number at place {at}"), changed(at), "differs")).collect()
+    }
+
+    /// Lines made of this one that the replay program must find.
+    fn wrong(&self) -> Vec<Wrong> {
         let mut short = self.clone();
         short.numbers.pop();
-        let answers = self.answer.clone().chain((!self.answer.contains(&self.last)).then_some(self.last));
-        let mut all: Vec<_> = answers.map(|at| (format!("another number at place {at}"), changed(at), "differs")).collect();
+        let mut all = self.changed();
         all.push(("one number fewer".to_string(), short, "bad"));
         all.push(("one number more".to_string(), self.clone().number(0), "bad"));
         all
     }
 }
+
+/// A line that the replay program must find, with what is wrong with it and what is said of it.
+type Wrong = (String, Line, &'static str);
 
 impl fmt::Display for Line {
     fn fmt(&self, f: &mut fmt::Formatter<'_>) -> fmt::Result {
@@ -84,9 +111,14 @@ pub struct Stored {
     pub line: Line,
 }
 
-/// The wrong lines made of that one of the cases which tells most.
-pub fn wrong(cases: &[Stored]) -> Vec<(String, Line, &'static str)> {
-    cases.iter().map(|stored| &stored.line).max_by_key(|line| line.told()).expect("a stored case").wrong()
+/// The wrong lines made of that one of the cases which tells most; and those with another answer made of the first that tells
+/// something beside a refusal, a part of a template at fault.
+pub fn wrong(cases: &[Stored]) -> Vec<Wrong> {
+    let lines = || cases.iter().map(|stored| &stored.line);
+    let mut all = lines().max_by_key(|line| line.told()).expect("a stored case").wrong();
+    let at_fault = lines().find(|line| (19..=21).contains(&line.refusal()));
+    all.extend(at_fault.into_iter().flat_map(Line::changed).map(|(what, line, said)| (format!("a part at fault, {what}"), line, said)));
+    all
 }
 
 #[derive(Default)]

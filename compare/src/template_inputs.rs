@@ -35,6 +35,27 @@ pub fn too_long() -> [Vec<u8>; 2] {
     [vec![b'a'; MAX_BYTES + 1], b"$C ".repeat(MAX_PARTS)]
 }
 
+/// Texts with a part at fault, in turn for 19, 20 and 21: in the first part and in a later one, after an empty part, before another
+/// fault, and beside what would be refused later.
+pub const AT_FAULT: [&str; 12] = [
+    "a:b:1", "[CLS] [SEP]: x", "$C",
+    "$A $B ::", "$a:x", "$A $B $C",
+    "$A  $x:1:1", "x: a:b:c", "x $B $C",
+    "[SEP] a:1:2 :", "$B $x:y", "a  $x:1",
+];
+
+/// Parts that cannot be read: for each reason, and for several of which the first decides.
+const UNREADABLE: [&[u8]; 18] = [
+    b"a:b:1", b"a:1:2", b"::", b"$x:1:1", b"$A:1:", b"$C::x", b"a:b", b":", b"$:", b"$x:y", b"$A:", b"$B:-1", b"$C", b"$x:1", b"$-1", b"$4294967296",
+    b"$\xff", b"$$:0",
+];
+
+/// One of them by chance, now and then after empty parts.
+pub fn unreadable(r: &mut Rng) -> Vec<u8> {
+    let empty = r.below(6).saturating_sub(3) as usize;
+    [&b" ".repeat(empty)[..], UNREADABLE[r.below(UNREADABLE.len() as u64) as usize]].concat()
+}
+
 fn special_id(r: &mut Rng) -> Vec<u8> {
     (0..r.below(3)).map(|_| LETTERS[r.below(LETTERS.len() as u64) as usize]).collect()
 }
@@ -42,7 +63,7 @@ fn special_id(r: &mut Rng) -> Vec<u8> {
 /// A part: A, B or a special id, one in so many unreadable.
 fn part(r: &mut Rng, bad: u64) -> Vec<u8> {
     if r.below(bad) == 0 {
-        return [&b"$C"[..], b"a:b", b"a:1:2", b"$\xff"][r.below(4) as usize].to_vec();
+        return unreadable(r);
     }
     let id = match r.below(8) {
         0 | 1 => b"$A".to_vec(),
@@ -83,17 +104,20 @@ pub fn all_of(parts: &[&str], most: usize) -> Vec<Vec<u8>> {
     out
 }
 
+/// No text, these, those with a part at fault, and those that are too long.
+fn with_faults(texts: &[&str]) -> Vec<Option<Vec<u8>>> {
+    let texts = texts.iter().chain(&AT_FAULT).map(|text| text.as_bytes().to_vec());
+    std::iter::once(None).chain(texts.chain(too_long()).map(Some)).collect()
+}
+
 /// A text of every fault and none for one encoding: not set, good, of an unknown id, empty, unreadable, too long.
 pub fn singles() -> Vec<Option<Vec<u8>>> {
-    let texts = ["$A", "[CLS] $A [SEP]:1", "[CLS]", "x $0", "", "$C", "x $B $C", "[CLS] [SEP]: x"].map(|text| text.as_bytes().to_vec());
-    std::iter::once(None).chain(texts.into_iter().chain(too_long()).map(Some)).collect()
+    with_faults(&["$A", "[CLS] $A [SEP]:1", "[CLS]", "x $0", ""])
 }
 
 /// The same for a pair, also without A, without B or without both.
 pub fn pairs() -> Vec<Option<Vec<u8>>> {
-    let texts = ["$A $B", "[CLS] $A [SEP] $B:1 [SEP]:1", "$B:1 $0 $b", "$A", "$B [SEP]", "x $B", "$A $B x", "[CLS]", "", "$A $B $C", "$a:x"];
-    let texts = texts.map(|text| text.as_bytes().to_vec());
-    std::iter::once(None).chain(texts.into_iter().chain(too_long()).map(Some)).collect()
+    with_faults(&["$A $B", "[CLS] $A [SEP] $B:1 [SEP]:1", "$B:1 $0 $b", "$A", "$B [SEP]", "x $B", "$A $B x", "[CLS]", ""])
 }
 
 /// Every pair of these, with each text in the place of one that is not set.

@@ -2,7 +2,7 @@
 -- Assumes nothing: these are definitions.
 use Prim.Native.Nat.{ℕ}
 use mathlib.Core.List.{List, _∷_}
-use Rattle.record.specs.Refusals.{numberOf}
+use Rattle.record.specs.Refusals.{numberOf, faultOr}
 use Rattle.c_crossing.specs.Crossing.{Crossed, crossed}
 use Rattle.template_text.specs.declared.Template.{Template}
 use Rattle.template_text.specs.declared.TemplateAnswer as template
@@ -14,3 +14,8 @@ piecesCrossed was (template.the-variants.Read n) pieces = crossed 0 (n ∷ piece
 
 abbrev pub templateCrossed : List ℕ → Template → Crossed
 templateCrossed was t = piecesCrossed was (t .answer) (t .pieces)
+
+-- the part at fault, in the place of what two lent numbers were
+abbrev pub templateFault : List ℕ → template.TemplateAnswer → List ℕ
+templateFault was (template.the-variants.Refused k) = faultOr was k
+templateFault was (template.the-variants.Read n) = was

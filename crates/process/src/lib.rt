@@ -7,7 +7,7 @@ use template_text::Template;
 
 // One or two encodings, put together as the template for one or for two says: each piece that names an encoding is that
 // encoding with the piece's type and its sequence, each special piece its rows of the table, if special tokens are added.
-// Refuses 1 a malformed record, 15 and 12 a table, 8 and 7 the template that is used, 11 a template that names a second
+// Refuses 1 a malformed record, 15 and 12 a table, 8 and 19 to 21 the template that is used, 11 a template that names a second
 // encoding where there is none, 10 an unknown special id where special tokens are added, 2 no room in the output or in the
 // working store. The working store is zeroed on success.
 pub fn process<'a>(

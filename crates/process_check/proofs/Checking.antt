@@ -8,7 +8,7 @@ use native.Mathlib.Omega.{arith}
 use Rattle.record.specs.declared.Refusal.the-variants.{TemplateTooLong}
 use Rattle.template_parts.specs.Parts.{parts}
 use Rattle.template_pieces.specs.Piece.{Piece}
-use Rattle.template_text.specs.Template.{unread, reads, short, ofPieces, readParts, readTemplate}
+use Rattle.template_text.specs.Template.{unread, reads, short, readParts, readTemplate}
 use Rattle.template_entries.specs.Table.{Special, sound, readTable}
 use Rattle.template_find.specs.Contracts.{IdsInside}
 use Rattle.template_entries.proofs.Sound.{table-holds}
@@ -26,6 +26,6 @@ pub read-short : (text : List ℕ) {pieces : List Piece} → readTemplate text �
 unfolding readTemplate
 read-short text {pieces} e = go (short text) e
   where
-    go : (b : Bool) → cond b (ofPieces (readParts 0 (parts text))) (unread TemplateTooLong) ≡ reads pieces → b ≡ true
+    go : (b : Bool) → cond b (readParts 0 0 (parts text)) (unread TemplateTooLong) ≡ reads pieces → b ≡ true
     go true e = refl
     go false e = absurd (let z : _≡_ {A = ℕ} 0 1 = cc in omega arith)

@@ -3,23 +3,25 @@
 use mathlib.Core.Path.{_≡_, refl, sym, ap, ap₂, _∙_}
 use mathlib.Core.Bool.{Bool, true, false, not, _&&_, cond}
 use mathlib.Core.Option.{Option, none as nothing, some}
-use mathlib.Core.List.{List, flatMap, map}
-use Prim.Native.Nat.{ℕ}
+use mathlib.Core.List.{List, [], _∷_, flatMap, map}
+use Prim.Native.Nat.{ℕ, _+_}
 use native.Mathlib.Omega.{arith}
 use lib.Dec.{eqb}
 use lib.ListN.{length}
 use Rattle.record.specs.Tree.{Encoding}
 use Rattle.record.specs.Read.{Reading as Batch, read, isOneOrTwo, allOk}
 use Rattle.record.specs.Standing.{OneOrTwo}
-use Rattle.record.specs.Refusals.{numberOf}
+use Rattle.record.specs.Refusals.{whyNumber, numberOf}
+use Rattle.record.specs.declared.Why.{Why}
+use Rattle.record.specs.declared.Why.the-variants.{MoreThanOneColon, BadTypeNumber, UnknownSequenceName}
 use Rattle.record.specs.Outcome.{Outcome, refused}
 use Rattle.record.specs.declared.Refusal.{Refusal}
 use Rattle.record.specs.declared.Spot.{Spot}
 use Rattle.record.specs.declared.Refusal.the-variants.{MalformedRecord, SpecialIdUnknown, BWithoutSecond, PartUnreadable, TemplateTooLong, IdsAndTextsDiffer, MalformedTable}
 use Rattle.record.proofs.OneOrTwo.{one-or-two-of, not-one-or-two}
 use Rattle.template_parts.specs.Parts.{parts}
-use Rattle.template_pieces.specs.Piece.{Piece}
-use Rattle.template_text.specs.Template.{TemplateReading, unread, reads, short, ofPieces, readParts, readTemplate}
+use Rattle.template_pieces.specs.Piece.{Piece, PartReading, unreadable, readable, readPart}
+use Rattle.template_text.specs.Template.{TemplateReading, unread, reads, faultAt, follows, short, readParts, readTemplate}
 use Rattle.template_entries.specs.Table.{Special, Table, faulty, sound, wellMade, agrees, entriesIn, specialOf, membersIn, readTable}
 use Rattle.template_text.specs.declared.Which.{Which}
 use Rattle.template_text.specs.declared.Which.the-variants.{Single, Pair}
@@ -40,14 +42,28 @@ use Rattle.process_template.proofs.Inputs.{hasSecond, lacks-told}
 
 -- ---- No refusal but 6 changes a buffer, and a template is not refused with 6
 
+why-not-six : (why : Why) → eqb (whyNumber why) 6 ≡ false
+why-not-six MoreThanOneColon = refl
+why-not-six BadTypeNumber = refl
+why-not-six UnknownSequenceName = refl
+
+parts-not-six : (part place : ℕ) (left : List (List ℕ)) {k : Refusal} → readParts part place left ≡ unread k → eqb (numberOf k) 6 ≡ false
+unfolding readParts
+parts-not-six part place [] e = let z : _≡_ {A = ℕ} 0 1 = cc in absurd (omega arith)
+parts-not-six part place (text ∷ rest) {k} e = go (readPart place text) (readParts (part + 1) (place + length text + 1) rest) (λ j q. parts-not-six (part + 1) (place + length text + 1) rest {k = j} q) e
+  where
+    go : (piece : PartReading) (pieces : TemplateReading) → ((j : Refusal) → pieces ≡ unread j → eqb (numberOf j) 6 ≡ false) → follows part place piece pieces ≡ unread k → eqb (numberOf k) 6 ≡ false
+    go (unreadable why) pieces more e = let same : k ≡ PartUnreadable (faultAt part place why) = cc in rw same (why-not-six why)
+    go (readable p) (unread j) more e = let same : j ≡ k = cc in rw (← same) (more j refl)
+    go (readable p) (reads ps) more e = let z : _≡_ {A = ℕ} 0 1 = cc in absurd (omega arith)
+
 pub template-not-six : (text : List ℕ) {k : Refusal} → readTemplate text ≡ unread k → eqb (numberOf k) 6 ≡ false
 unfolding readTemplate
-template-not-six text {k} e = go (short text) (readParts 0 (parts text)) e
+template-not-six text {k} e = go (short text) e
   where
-    go : (b : Bool) (ps : Option (List Piece)) → cond b (ofPieces ps) (unread TemplateTooLong) ≡ unread k → eqb (numberOf k) 6 ≡ false
-    go true nothing e = let same : k ≡ PartUnreadable = cc in rw same refl
-    go true (some ps) e = absurd (let z : _≡_ {A = ℕ} 0 1 = cc in omega arith)
-    go false ps e = let same : k ≡ TemplateTooLong = cc in rw same refl
+    go : (b : Bool) → cond b (readParts 0 0 (parts text)) (unread TemplateTooLong) ≡ unread k → eqb (numberOf k) 6 ≡ false
+    go true e = parts-not-six 0 0 (parts text) e
+    go false e = let same : k ≡ TemplateTooLong = cc in rw same refl
 
 pub table-not-six : (entries members added : List ℕ) {k : Refusal} → readTable entries members added ≡ faulty k → eqb (numberOf k) 6 ≡ false
 unfolding readTable
@@ -109,7 +125,7 @@ module _ (E : Encoding) (second : Option Encoding) (table : List Special) (add :
       go : (r : TemplateReading) → readTemplate text ≡ r → usability table (hasSecond second) add r ≡ Valid → (pieces : List Piece) × Usable text add second table pieces × ((a b c d : List ℕ) → outcome r a b c d ≡ folded pieces a b c d)
       go (unread j) t e = absurd (let z : _≡_ {A = ℕ} 0 1 = cc in omega arith)
       go (reads pieces) t e =
-          let (l, i, _) = passes (not (hasSecond second) && someOk isB pieces) add (allOk (known table) pieces) (refused PartUnreadable) e in
+          let (l, i, _) = passes (not (hasSecond second) && someOk isB pieces) add (allOk (known table) pieces) (refused BWithoutSecond) e in
           (pieces, record { reads = t; has-second = lacks-told second pieces ∙ l; all-known = i }, λ a b c d. rw (lacks-told second pieces) (passes (not (hasSecond second) && someOk isB pieces) add (allOk (known table) pieces) (folded pieces a b c d) e .2))
 
   -- and has steps

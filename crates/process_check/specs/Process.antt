@@ -35,13 +35,14 @@ applyInto table add E second pieces nodes rows working-nodes working-rows =
     (cond (add && not (allOk (known table) pieces)) (refused SpecialIdUnknown)
     (foldedInto (flatMap (applied table add E second) pieces) nodes rows working-nodes working-rows))
 
--- "15, 12, 8, 7 (the template used)"
+-- "15, 12, 8, .. (the template used)", then 19 to 21, "all in 7's position"
 unfoldable pub withTable : Table → TemplateReading → (List Special → List Piece → Outcome) → Outcome
 withTable (faulty k) reading next = refused k
 withTable (sound table) (unread k) next = refused k
 withTable (sound table) (reads pieces) next = next table pieces
 
--- "Process: 1, 15, 12, 8, 7 (the template used), 11, 10 only when special tokens are added, 2.": of the batch, the table, the
+-- "Process: 1, 15, 12, 8, .. (the template used), 11, 10 only when special tokens are added, 2.", with 19 to 21 before 11; "processing pass
+-- the finer answer on": of the batch, the table, the
 -- template for one encoding and for two as they are read, and whether special tokens are added
 unfoldable pub processRead : Reading → Table → (Which → TemplateReading) → Bool → List ℕ → List ℕ → List ℕ → List ℕ → Outcome
 processRead batch table template add nodes rows working-nodes working-rows =

@@ -18,8 +18,8 @@ pub enum Decision {
 }
 
 // The steps by which one or two encodings are put together, written to `steps`; or the refusal that comes first: 1 a malformed
-// record, 15 and 12 a table, 8 and 7 the template that is used, 11 a template that names a second encoding where there is
-// none, 10 an unknown special id where special tokens are added.
+// record, 15 and 12 a table, 8 and 19 to 21 the template that is used, 11 a template that names a second encoding where there
+// is none, 10 an unknown special id where special tokens are added.
 pub fn decide<'a>(
     nodes: &[u32],
     rows: &[u32],
@@ -68,8 +68,8 @@ pub fn decide<'a>(
         return Decision::Refused(why);
     }
     let answer = process_plan::plan(text, add_special_tokens, entries, added, steps);
-    let PlanAnswer::Steps(count) = answer else {
-        return Decision::Refused(Refusal::PartUnreadable);
-    };
-    Decision::Take { second, count }
+    match answer {
+        PlanAnswer::Refused(why) => Decision::Refused(why),
+        PlanAnswer::Steps(count) => Decision::Take { second, count },
+    }
 }

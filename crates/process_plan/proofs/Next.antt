@@ -8,16 +8,17 @@ use Prim.Native.Nat.{ℕ, _+_, _-_, _<_}
 use lib.Dec.{eqb}
 use lib.ListN.{length}
 use borrow.Author.Tests.{eq-eqb, eqb-true, eqb-false}
+use Rattle.record.specs.declared.Refusal.the-variants.{PartUnreadable}
 use Rattle.lookup_ranges.specs.First.{part}
 use Rattle.template_parts.specs.Parts.{parts}
 use Rattle.template_pieces.specs.Piece.{Piece, special}
 use Rattle.template_pieces.proofs.Lies.{kind-special}
-use Rattle.template_text.specs.Template.{readParts}
+use Rattle.template_text.specs.Template.{unread, reads, readParts}
 use Rattle.template_text.specs.Comes.{comesAt}
 use Rattle.template_text.specs.declared.PieceStep.{PieceStep}
 use Rattle.template_text.specs.declared.PieceStep.the-variants.{End, Unreadable as NotRead, Read}
 use Rattle.template_text.proofs.Walked.{Walked}
-use Rattle.template_text.proofs.Coming.{Passing, come-end, come-bad, come-piece}
+use Rattle.template_text.proofs.Coming.{Passing, comes}
 use Rattle.process_steps.specs.declared.Step.{Step}
 use Rattle.process_plan.specs.Contracts.{specialStep, stepOf, stepAnswer, knownStep, comingStep, nextStep}
 use Rattle.process_plan.specs.declared.StepAnswer.{StepAnswer}
@@ -72,8 +73,8 @@ pub record NoStep (entries added : List ℕ) (add : Bool) (text : List ℕ) (pas
   pub missing : specialStep entries added type id ≡ nothing
 
 abbrev pub Says : List ℕ → List ℕ → Bool → List ℕ → ℕ → List Piece → NextStep → Type 0
-Says entries added add text at passed Ended = readParts 0 (parts text) ≡ some passed
-Says entries added add text at passed Unreadable = readParts 0 (parts text) ≡ nothing
+Says entries added add text at passed Ended = readParts 0 0 (parts text) ≡ reads passed
+Says entries added add text at passed (Unreadable fault) = readParts 0 0 (parts text) ≡ unread (PartUnreadable fault)
 Says entries added add text at passed NotKnown = NoStep entries added add text passed
 Says entries added add text at passed (LeftOut n) = Passed entries added add text at passed [] n
 Says entries added add text at passed (Next s n) = Passed entries added add text at passed (s ∷ []) n
@@ -117,6 +118,6 @@ module _ (entries added : List ℕ) (add : Bool) {text : List ℕ} {at : ℕ} {p
   next-says w e = subst (Says entries added add text at passed) (sym e) (go (comesAt text at) refl)
     where
       go : (c : PieceStep) → comesAt text at ≡ c → Says entries added add text at passed (comingStep entries added add text c)
-      go End e = come-end w e
-      go NotRead e = come-bad w e
-      go (Read kind type start size next) e = says-piece (come-piece w e)
+      go End e = comes w e
+      go (NotRead fault) e = comes w e
+      go (Read kind type start size next) e = says-piece (comes w e)

@@ -2,18 +2,19 @@
 -- Assumes nothing.
 use mathlib.Core.Path.{_≡_, refl, ap, sym, _∙_}
 use mathlib.Core.Bool.{Bool, true, false, _&&_}
-use mathlib.Core.Option.{none as nothing, some}
+use mathlib.Core.Option.{none as nothing}
 use mathlib.Core.List.{List, [], _∷_, _++_, flatMap, append-assoc, append-nil}
 use Prim.Native.Nat.{ℕ, _+_, _*_, _≤_, _<_}
 use native.Mathlib.Omega.{arith}
 use lib.ListN.{length, drop, length-append}
 use lib.Seq.{sets, length-sets}
 use Rattle.record.specs.Read.{allOk}
+use Rattle.record.specs.declared.Fault.{Fault}
 use Rattle.record.specs.declared.Refusal.the-variants.{PartUnreadable, SpecialIdUnknown}
 use Rattle.lists.proofs.Sets.{sets-append, sets-over}
 use Rattle.template_parts.specs.Parts.{parts}
 use Rattle.template_pieces.specs.Piece.{Piece, special}
-use Rattle.template_text.specs.Template.{mostParts, pieceWidth, readParts}
+use Rattle.template_text.specs.Template.{mostParts, pieceWidth, unread, reads, readParts}
 use Rattle.template_text.proofs.Answers.{short-is, template-holds}
 use Rattle.template_text.proofs.Walked.{Walked, walked-start, walked-first}
 use Rattle.template_find.specs.Last.{lastWith}
@@ -74,10 +75,10 @@ module _ {text : List ℕ} {add : Bool} {entries added steps : List ℕ} {at cou
     few : length planned ≤ mostParts
     few = omega (arith, steps-few entries added add (g .passed), g .walked .number, short-is text (ask .is-short) .1)
 
-    pub plan-end : readParts 0 (parts text) ≡ some (g .passed) → Plans text add entries added (Steps count) steps′
+    pub plan-end : readParts 0 0 (parts text) ≡ reads (g .passed) → Plans text add entries added (Steps count) steps′
     plan-end e members table pieces t r all =
         let h = table-holds entries members added t in
-        let whole : readParts 0 (parts text) ≡ some pieces = template-holds text r in
+        let whole : readParts 0 0 (parts text) ≡ reads pieces = template-holds text r in
         let same : pieces ≡ g .passed = cc in
         rw same
         (record {
@@ -94,9 +95,9 @@ module _ {text : List ℕ} {add : Bool} {entries added steps : List ℕ} {at cou
         })
 
   -- a part that cannot be read
-  pub plan-bad : readParts 0 (parts text) ≡ nothing → Plans text add entries added (Refused PartUnreadable) steps′
+  pub plan-bad : {fault : Fault} → readParts 0 0 (parts text) ≡ unread (PartUnreadable fault) → Plans text add entries added (Refused (PartUnreadable fault)) steps′
   plan-bad none members table pieces t r all =
-      let whole : readParts 0 (parts text) ≡ some pieces = template-holds text r in
+      let whole : readParts 0 0 (parts text) ≡ reads pieces = template-holds text r in
       let z : _≡_ {A = ℕ} 0 1 = cc in
       absurd (omega arith)
 

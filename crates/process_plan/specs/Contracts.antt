@@ -55,7 +55,7 @@ knownStep next (some s) = Next s next
 -- "special pieces only if special tokens are added"
 abbrev pub comingStep : List ℕ → List ℕ → Bool → List ℕ → PieceStep → NextStep
 comingStep entries added add text End = Ended
-comingStep entries added add text NotRead = Unreadable
+comingStep entries added add text (NotRead fault) = Unreadable fault
 comingStep entries added add text (Read kind t start size next) =
     cond (eqb kind 2 && not add) (LeftOut next) (knownStep next (stepOf entries added kind t (part start (start + size) text)))
 

@@ -2,6 +2,7 @@
 ghost use mathlib.Core.Path.{_≡_};
 ghost use Rattle.process_plan.specs.Contracts.{stepOf, stepAnswer, nextStep, TableFits, AskPlan, Plans};
 use process_steps::Step;
+use record::Fault;
 use record::Refusal;
 use template_find::FoundEntry;
 use template_pieces::Kind;
@@ -17,7 +18,7 @@ pub enum PlanAnswer {
 // left out, or that has a step, and the place after it.
 pub enum NextStep {
     Ended,
-    Unreadable,
+    Unreadable(Fault),
     NotKnown,
     LeftOut(usize),
     Next(Step, usize),
@@ -47,7 +48,9 @@ pub fn plan(
     loop {
         match next_step(text, at, add_special_tokens, entries, added) {
             NextStep::Ended => return PlanAnswer::Steps(count),
-            NextStep::Unreadable => return PlanAnswer::Refused(Refusal::PartUnreadable),
+            NextStep::Unreadable(fault) => {
+                return PlanAnswer::Refused(Refusal::PartUnreadable(fault));
+            }
             NextStep::NotKnown => return PlanAnswer::Refused(Refusal::SpecialIdUnknown),
             NextStep::LeftOut(next) => at = next,
             NextStep::Next(step, next) => {
@@ -71,26 +74,27 @@ fn next_step(
     ensures { λ r. ⌜ r ≡ nextStep (now (entries .entry)) (now (added .entry)) «add_special_tokens» (now (text .entry)) at ⌝ }
 {
     let coming = template_text::piece_from(text, at);
-    match coming {
-        PieceStep::End => NextStep::Ended,
-        PieceStep::Unreadable => NextStep::Unreadable,
-        PieceStep::Read {
-            kind,
-            type_id,
-            start,
-            length,
-            next,
-        } => {
-            if kind == Kind::SPECIAL && !add_special_tokens {
-                return NextStep::LeftOut(next);
-            }
-            let id = &text[start..start + length];
-            let StepAnswer::Found(step) = step_of(kind, type_id, entries, added, id) else {
-                return NextStep::NotKnown;
-            };
-            NextStep::Next(step, next)
-        }
+    let PieceStep::Read {
+        kind,
+        type_id,
+        start,
+        length,
+        next,
+    } = coming
+    else {
+        let PieceStep::Unreadable(fault) = coming else {
+            return NextStep::Ended;
+        };
+        return NextStep::Unreadable(fault);
+    };
+    if kind == Kind::SPECIAL && !add_special_tokens {
+        return NextStep::LeftOut(next);
     }
+    let id = &text[start..start + length];
+    let StepAnswer::Found(step) = step_of(kind, type_id, entries, added, id) else {
+        return NextStep::NotKnown;
+    };
+    NextStep::Next(step, next)
 }
 
 // The step of a piece of a kind: of a sequence, or of the entry of a special id, whose number has room in a step because the

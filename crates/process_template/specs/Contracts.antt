@@ -36,7 +36,7 @@ abbrev pub namesSecond : SequencesAnswer → Bool
 namesSecond (Unnamed k) = false
 namesSecond (Named a b) = b
 
--- "8, 7, 11, 10 only when special tokens are added": a table, whether there is a second encoding, whether special tokens are
+-- 8, 19 to 21, "11, 10 only when special tokens are added": a table, whether there is a second encoding, whether special tokens are
 -- added
 unfoldable pub usability : List Special → Bool → Bool → TemplateReading → Validity
 usability table second add (unread k) = Refused k

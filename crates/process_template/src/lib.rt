@@ -40,8 +40,8 @@ pub fn second_spot(nodes: &[u32], rows: &[u32]) -> Spot
     }
 }
 
-// Whether a template can be used, with a second encoding or without. Refused with 8, 7, 11, then 10 if special tokens are
-// added.
+// Whether a template can be used, with a second encoding or without. Refused with 8, 19 to 21, 11, then 10 if special tokens
+// are added.
 pub fn check_template(
     text: &[u8],
     second: bool,

@@ -14,3 +14,4 @@ pub mod Walk
 pub mod Passing
 pub mod Counts
 pub mod Working
+pub mod Faults

@@ -11,7 +11,7 @@ use Rattle.record.specs.Flat.{rowWidth, nodeWidth, flatNodes, flatRows}
 use Rattle.record.specs.WellFormed.{Fits, nodesIn, rowsIn}
 use Rattle.record.specs.Read.{fitsOk}
 use Rattle.lists.specs.Lists.{zeros}
-use Rattle.record.specs.Refusals.{numberOf}
+use Rattle.record.specs.Refusals.{numberOf, faultOr}
 use Rattle.record.specs.declared.Refusal.{Refusal}
 use Rattle.record.specs.declared.Refusal.the-variants.{NoRoom}
 use Rattle.record.specs.declared.Written.{Written}
@@ -49,6 +49,11 @@ refusalOf (Done n r) = 0
 abbrev pub countsOr : List ℕ → Written → List ℕ
 countsOr was (Refused k) = was
 countsOr was (Done n r) = n ∷ r ∷ []
+
+-- and the part of a template at fault, if that is why
+abbrev pub faultAfter : List ℕ → Written → List ℕ
+faultAfter was (Refused k) = faultOr was k
+faultAfter was (Done n r) = was
 
 -- ---- The buffers
 

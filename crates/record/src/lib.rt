@@ -3,7 +3,7 @@
 ghost use mathlib.Core.List.{[], _∷_};
 ghost use mathlib.Core.Path.{_≡_};
 ghost use Rattle.record.specs.Flat.{nodeWidth, rowWidth, flatNodes};
-ghost use Rattle.record.specs.Refusals.{numberOf};
+ghost use Rattle.record.specs.Refusals.{whyNumber, numberOf, faultOf, faultAnswer};
 ghost use Rattle.record.specs.Tree.{forest, empty};
 
 // What an encoding measures. The record itself is two lent slices, nodes and rows.
@@ -86,7 +86,36 @@ pub struct Spot {
     pub row: usize,
 }
 
-// Why an operation does not do its work, in the order of the numbers of documents 01 and 02.
+// Why a part of a template cannot be read.
+pub enum Why {
+    MoreThanOneColon,
+    BadTypeNumber,
+    UnknownSequenceName,
+}
+
+impl Why {
+    // The number of document 02.
+    pub fn number(self) -> u32
+        ensures { λ r. ⌜ r ≡ whyNumber self ⌝ }
+    {
+        match self {
+            Why::MoreThanOneColon => 19,
+            Why::BadTypeNumber => 20,
+            Why::UnknownSequenceName => 21,
+        }
+    }
+}
+
+// A part of a template that cannot be read: why, its number among the parts and the place of its first byte in the text, both
+// from 0.
+pub struct Fault {
+    pub why: Why,
+    pub part: usize,
+    pub place: usize,
+}
+
+// Why an operation does not do its work, in the order of the numbers of documents 01 and 02. A part of a template that cannot
+// be read is the one that says where.
 pub enum Refusal {
     MalformedRecord,
     NoRoom,
@@ -94,7 +123,6 @@ pub enum Refusal {
     SecondMissing,
     TooShort,
     OffsetTooLarge,
-    PartUnreadable,
     TemplateTooLong,
     PairLacksAOrB,
     SpecialIdUnknown,
@@ -106,6 +134,13 @@ pub enum Refusal {
     NotText,
     OffsetPastEnd,
     OffsetInsideCharacter,
+    PartUnreadable(Fault),
+}
+
+// The part of a template that is at fault, or none.
+pub enum FaultAnswer {
+    None,
+    Part(Fault),
 }
 
 impl Refusal {
@@ -120,7 +155,6 @@ impl Refusal {
             Refusal::SecondMissing => 4,
             Refusal::TooShort => 5,
             Refusal::OffsetTooLarge => 6,
-            Refusal::PartUnreadable => 7,
             Refusal::TemplateTooLong => 8,
             Refusal::PairLacksAOrB => 9,
             Refusal::SpecialIdUnknown => 10,
@@ -132,7 +166,21 @@ impl Refusal {
             Refusal::NotText => 16,
             Refusal::OffsetPastEnd => 17,
             Refusal::OffsetInsideCharacter => 18,
+            Refusal::PartUnreadable(fault) => {
+                let why = fault.why;
+                why.number()
+            }
         }
+    }
+
+    // The part at fault, if that is why.
+    pub fn fault(self) -> FaultAnswer
+        ensures { λ r. ⌜ r ≡ faultAnswer (faultOf self) ⌝ }
+    {
+        let Refusal::PartUnreadable(fault) = self else {
+            return FaultAnswer::None;
+        };
+        FaultAnswer::Part(fault)
     }
 }
 

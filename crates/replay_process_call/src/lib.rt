@@ -2,6 +2,7 @@
 // `replay_process`.
 ghost use mathlib.Core.Path.{_≡_};
 ghost use Rattle.replay_outputs.specs.Contracts.{Ends};
+ghost use Rattle.replay_process_call.specs.Contracts.{FaultAs};
 use replay_answers::Outcome;
 use replay_outputs::BEFORE;
 use replay_outputs::BEFORE_COUNT;
@@ -9,7 +10,7 @@ use replay_outputs::OUTPUT;
 use replay_outputs::WORKING;
 
 // How many numbers stand before the lists in the rest of a case.
-pub const MARKS: usize = 4;
+pub const MARKS: usize = 6;
 
 // The most bytes of a text, some more than a template may have, and of the added pool.
 pub const TEXT: usize = 4100;
@@ -19,8 +20,10 @@ pub const POOL: usize = 256;
 // What stands in each number of a working store before a call.
 const LENT: u32 = 7;
 
-// `26 nodes rows add single-set pair-set left entries members single pair added refusal nodes rows out-nodes out-rows`: `left`
-// is what each number of the working store is after the call
+const NOT_STORED: u32 = 4294967295;
+
+// `26 nodes rows add single-set pair-set left part place entries members single pair added refusal nodes rows out-nodes out-rows`:
+// `left` is what each number of the working store is after the call, `part` and `place` what those of the fault are
 pub fn process(nodes: &[u32], rows: &[u32], rest: &[u32], answers: &[u32]) -> Outcome
     ensures { λ r. ⌜ (r ≡ Outcome.Same → Ends (now (answers .entry))) ⌝ }
 {
@@ -89,6 +92,7 @@ fn processed<'a>(
     let mut working_nodes = [LENT; WORKING];
     let mut working_rows = [LENT; WORKING];
     let mut counts = [BEFORE_COUNT; 2];
+    let mut fault = [BEFORE_COUNT; 2];
     let node_numbers = replay_outputs::nodes_lent(answers, &out_nodes);
     let row_numbers = replay_outputs::rows_lent(answers, &out_rows);
     let refusal = c_process::noddrefyr_process(
@@ -107,8 +111,22 @@ fn processed<'a>(
         &mut working_nodes,
         &mut working_rows,
         &mut counts,
+        &mut fault,
     );
     let left = replay_cases::number_at(rest, 3);
-    let answer = replay_outputs::left_as(left, &working_nodes, &working_rows, refusal);
+    let stored = replay_outputs::left_as(left, &working_nodes, &working_rows, refusal);
+    let answer = fault_as(fault, rest, stored);
     replay_outputs::answered_whole(answer, &counts, &out_nodes, &out_rows, answers)
+}
+
+// What is answered of a fault: the refusal, if both its numbers are those of the case.
+fn fault_as(fault: [usize; 2], rest: &[u32], refusal: u32) -> u32
+    ensures { λ r. ⌜ FaultAs fault (now (rest .entry)) refusal r ⌝ }
+{
+    if lists::wide(replay_cases::number_at(rest, 4)) == fault[0] {
+        if lists::wide(replay_cases::number_at(rest, 5)) == fault[1] {
+            return refusal;
+        }
+    }
+    NOT_STORED
 }

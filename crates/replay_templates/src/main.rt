@@ -21,11 +21,17 @@ const COUNT_ADDED: u32 = 25;
 // The most bytes of the added pool.
 const POOL: usize = 256;
 
-// What stands in the lent sum before a call.
+// What stands in the lent sum and in each number of a lent fault before a call.
 const BEFORE_SUM: u64 = 7;
+
+const BEFORE_PLACE: usize = 7;
 
 // The largest number of a case.
 const LARGEST: u64 = 4294967295;
+
+const LARGEST_PLACE: usize = 4294967295;
+
+const NOT_STORED: u32 = 4294967295;
 
 fn main() {
     let mut piece = [0u8; PIECE];
@@ -88,7 +94,7 @@ fn replay(operation: u32, first: &[u32], second: &[u32], rest: &[u32]) -> Outcom
     }
 }
 
-// `24 entries members single-set pair-set single pair added refusal`
+// `24 entries members single-set pair-set single pair added refusal template part place`
 fn validate(entries: &[u32], members: &[u32], rest: &[u32]) -> Outcome {
     let mut single = [0u8; TEXT];
     let mut pair = [0u8; TEXT];
@@ -109,6 +115,7 @@ fn validated(
     let held = replay_bytes::texts_at(rest, list.end, pair, added);
     let pair_bytes = held.first;
     let added_bytes = held.second;
+    let mut fault = [BEFORE_PLACE; 3];
     let refusal = c_validate::noddrefyr_validate(
         replay_cases::number_at(rest, 0) == 1,
         &single[..single_bytes],
@@ -117,17 +124,25 @@ fn validated(
         entries,
         members,
         &added[..added_bytes],
+        &mut fault,
     );
-    refused(refusal, rest, held.end)
+    let answer = [
+        as_stored(fault[0]),
+        as_stored(fault[1]),
+        as_stored(fault[2]),
+    ];
+    replay_answers::answered_three(refusal, &answer, rest, held.end)
 }
 
-// Whether a case is, from a place on, a refusal alone.
-fn refused(refusal: u32, rest: &[u32], at: usize) -> Outcome {
-    let none = [0u32; 0];
-    replay_answers::answered(refusal, &none, rest, at)
+// A number as a case has it. One that is too large is the largest, which no case stores.
+fn as_stored(number: usize) -> u32 {
+    if number > LARGEST_PLACE {
+        return NOT_STORED;
+    }
+    number as u32
 }
 
-// `25 entries members set is-pair text added refusal count`
+// `25 entries members set is-pair text added refusal count part place`
 fn count_added(entries: &[u32], members: &[u32], rest: &[u32]) -> Outcome {
     let mut text = [0u8; TEXT];
     let mut added = [0u8; POOL];
@@ -145,6 +160,7 @@ fn counted(
     let text_bytes = held.first;
     let added_bytes = held.second;
     let mut sum = BEFORE_SUM;
+    let mut fault = [BEFORE_PLACE; 2];
     let refusal = c_validate::noddrefyr_count_added(
         replay_cases::number_at(rest, 0) == 1,
         &text[..text_bytes],
@@ -153,15 +169,16 @@ fn counted(
         members,
         &added[..added_bytes],
         &mut sum,
+        &mut fault,
     );
-    sum_stored(refusal, sum, rest, held.end)
+    sum_stored(refusal, sum, fault, rest, held.end)
 }
 
-// Whether a case is, from a place on, a refusal and a sum, which may be too large for a number of a case.
-fn sum_stored(refusal: u32, sum: u64, rest: &[u32], at: usize) -> Outcome {
+// Whether a case is, from a place on, a refusal, a sum, which may be too large for a number of a case, and the part at fault.
+fn sum_stored(refusal: u32, sum: u64, fault: [usize; 2], rest: &[u32], at: usize) -> Outcome {
     if sum > LARGEST {
         return Outcome::Differs;
     }
-    let answer = [sum as u32];
-    replay_answers::answered_one(refusal, &answer, rest, at)
+    let answer = [sum as u32, as_stored(fault[0]), as_stored(fault[1])];
+    replay_answers::answered_three(refusal, &answer, rest, at)
 }

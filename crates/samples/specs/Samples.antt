@@ -1,4 +1,4 @@
--- Document 01's starred samples, all of them: one list, over the definitions that the operations promise.
+-- Document 01's starred samples, all of them, three as document 02 changes them: one list, over the definitions that the operations promise.
 -- Assumes nothing: these are definitions. That every entry holds is `hold` of proofs/Hold.
 use mathlib.Core.Path.{_≡_}
 use mathlib.Core.Option.{Option, none as nothing, some}
@@ -151,7 +151,7 @@ pairSamples =
     ∷ sample (keptNumbers (keptLengths 2 (Rows 10) 7 LongestFirst)) (0 ∷ 2 ∷ 5 ∷ [])
     ∷ []
 
--- the refusal's number or 0, then kind, type, id start and id length of each piece
+-- 0, then kind, type, id start and id length of each piece; or the refusal's number, with the number and the place of the part at fault
 abbrev pub reading : String → List ℕ
 reading text = readingNumbers (readTemplate (bytes text))
 
@@ -161,10 +161,10 @@ templateSamples =
     sample (reading "$+7") (0 ∷ 0 ∷ 7 ∷ 0 ∷ 0 ∷ [])
     -- "`:1` empty special id, type 1"
     ∷ sample (reading ":1") (0 ∷ 2 ∷ 1 ∷ 0 ∷ 0 ∷ [])
-    -- "`$C`, `a:b:1`, `$4294967296` give 7"
-    ∷ sample (reading "$C") (7 ∷ [])
-    ∷ sample (reading "a:b:1") (7 ∷ [])
-    ∷ sample (reading "$4294967296") (7 ∷ [])
+    -- "`$C`, `a:b:1`, `$4294967296` now give 21, 19, 21", each in part 0 at place 0
+    ∷ sample (reading "$C") (21 ∷ 0 ∷ 0 ∷ [])
+    ∷ sample (reading "a:b:1") (19 ∷ 0 ∷ 0 ∷ [])
+    ∷ sample (reading "$4294967296") (21 ∷ 0 ∷ 0 ∷ [])
     ∷ []
 
 abbrev pub samples : List Sample

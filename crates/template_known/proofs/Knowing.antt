@@ -2,20 +2,21 @@
 -- with these entries. Assumes nothing.
 use mathlib.Core.Path.{_≡_, refl, sym, _∙_, ap}
 use mathlib.Core.Bool.{Bool, true, false, _&&_, and-false, and-assoc}
-use mathlib.Core.Option.{none as nothing, some}
+use mathlib.Core.Option.{none as nothing}
 use Prim.Native.Nat.{ℕ, _+_, _-_, _/_, _≤_, _<_}
 use native.Mathlib.Omega.{arith}
 use mathlib.Core.List.{List, [], _∷_, _++_}
 use lib.ListN.{length, getD, take, drop}
 use borrow.Author.Count.{below-more}
 use Rattle.record.specs.Read.{allOk}
+use Rattle.record.specs.declared.Fault.{Fault}
 use Rattle.record.specs.declared.Refusal.the-variants.{PartUnreadable, SpecialIdUnknown}
 use Rattle.lookup_ranges.specs.First.{lastFrom}
 use Rattle.lookup_ranges.proofs.First.{nothing-last}
 use Rattle.template_parts.specs.Parts.{parts}
 use Rattle.template_pieces.specs.Piece.{Piece, sequenceA, sequenceB, special}
 use Rattle.template_pieces.proofs.Lies.{kind-special, PieceIs}
-use Rattle.template_text.specs.Template.{readParts}
+use Rattle.template_text.specs.Template.{unread, reads, readParts}
 use Rattle.template_text.proofs.Walked.{Walked, walked-start, walked-first}
 use Rattle.template_text.proofs.Answers.{template-holds}
 use Rattle.template_entries.specs.Table.{Special, entryWidth, noEntry, entriesIn, sound, readTable}
@@ -28,7 +29,7 @@ use Rattle.template_known.specs.Contracts.{KnownIn}
 use Rattle.template_known.specs.declared.Validity.the-variants.{Valid, Refused}
 use Rattle.template_text.specs.Comes.{comesAt}
 use Rattle.template_text.specs.declared.PieceStep.the-variants.{End, Unreadable, Read}
-use Rattle.template_text.proofs.Coming.{Passing, come-end, come-bad, come-piece}
+use Rattle.template_text.proofs.Coming.{Passing, comes}
 
 -- a piece that is not special is known
 module _ {text : List ℕ} {kind type start size : ℕ} where
@@ -80,26 +81,26 @@ module _ {text entries numbers : List ℕ} {at : ℕ} (k : Knowing text entries 
       record {
         says =
             λ members table pieces t r.
-            let all : readParts 0 (parts text) ≡ some (k .passed) = come-end (k .walked) e in
-            let whole : readParts 0 (parts text) ≡ some pieces = template-holds text r in
+            let all : readParts 0 0 (parts text) ≡ reads (k .passed) = comes (k .walked) e in
+            let whole : readParts 0 0 (parts text) ≡ reads pieces = template-holds text r in
             let same : pieces ≡ k .passed = cc in
             rw (same, k .all-known members table t);
       }
 
-  pub know-bad : comesAt text at ≡ Unreadable → KnownIn text entries numbers (Refused PartUnreadable)
-  know-bad e =
+  pub know-bad : {fault : Fault} → comesAt text at ≡ Unreadable fault → KnownIn text entries numbers (Refused (PartUnreadable fault))
+  know-bad {fault} e =
       record {
         says =
             λ members table pieces t r.
-            let none : readParts 0 (parts text) ≡ nothing = come-bad (k .walked) e in
-            let whole : readParts 0 (parts text) ≡ some pieces = template-holds text r in
+            let none : readParts 0 0 (parts text) ≡ unread (PartUnreadable fault) = comes (k .walked) e in
+            let whole : readParts 0 0 (parts text) ≡ reads pieces = template-holds text r in
             let z : _≡_ {A = ℕ} 0 1 = cc in
             absurd (omega arith);
       }
 
   module _ {kind type place long next : ℕ} (e : comesAt text at ≡ Read kind type place long next) where
     pub know-passing : Passing text at (k .passed) kind type place long next
-    know-passing = come-piece (k .walked) e
+    know-passing = comes (k .walked) e
 
     abbrev piece : Piece
     piece = know-passing .piece

@@ -33,32 +33,33 @@ pub fn all_known(text: &[u8], entries: &[u32], added: &[u8]) -> Validity
     let mut at: usize = 0;
     'parts: loop {
         let step = template_text::piece_from(text, at);
-        match step {
-            PieceStep::End => return Validity::Valid,
-            PieceStep::Unreadable => return Validity::Refused(Refusal::PartUnreadable),
-            PieceStep::Read {
-                kind,
-                type_id: _,
-                start,
-                length,
-                next,
-            } => {
-                at = next;
-                if kind != Kind::SPECIAL {
-                    continue;
-                }
-                let id = &text[start..start + length];
-                let mut i: usize = 0;
-                loop {
-                    if i == count {
-                        break 'parts;
-                    }
-                    if template_find::has_id(entries, i, added, id) {
-                        break;
-                    }
-                    i += 1;
-                }
+        let PieceStep::Read {
+            kind,
+            type_id: _,
+            start,
+            length,
+            next,
+        } = step
+        else {
+            let PieceStep::Unreadable(fault) = step else {
+                return Validity::Valid;
+            };
+            return Validity::Refused(Refusal::PartUnreadable(fault));
+        };
+        at = next;
+        if kind != Kind::SPECIAL {
+            continue;
+        }
+        let id = &text[start..start + length];
+        let mut i: usize = 0;
+        loop {
+            if i == count {
+                break 'parts;
             }
+            if template_find::has_id(entries, i, added, id) {
+                break;
+            }
+            i += 1;
         }
     }
     Validity::Refused(Refusal::SpecialIdUnknown)

@@ -1,7 +1,7 @@
 -- The parts that are left from a place on: none past the end; else the part there and those from the next place on.
 -- And their number, one step at a place.
 -- Assumes nothing.
-use mathlib.Core.Path.{_≡_, refl, ap}
+use mathlib.Core.Path.{_≡_, refl, ap, sym, _∙_}
 use mathlib.Core.Bool.{Bool, true, false, cond}
 use Prim.Native.Nat.{ℕ, suc, _+_, _-_, _≤_, _<_}
 use native.Mathlib.Numerals.{add-one}
@@ -85,6 +85,18 @@ part-found text at {start} {size} e = go (leb at (length text)) refl
         let end : End ≡ Part start size = rw none at e in
         let z : _≡_ {A = ℕ} 0 1 = cc in
         absurd (omega arith)
+
+-- A part that is left at a place stands there, and the others are left from the next place on.
+pub record Leads (text : List ℕ) (at : ℕ) (part : List ℕ) (rest : List (List ℕ)) : Type 0 where
+  pub inside : at + length part ≤ length text
+  pub stands : take (length part) (drop at text) ≡ part
+  pub next : partsFrom text (at + length part + 1) ≡ rest
+
+pub part-leads : (text : List ℕ) (at : ℕ) {part : List ℕ} {rest : List (List ℕ)} → partsFrom text at ≡ part ∷ rest → Leads text at part rest
+part-leads text at {part} {rest} e =
+    let here : Here text at at (length part) = part-found text at (rw e) in
+    let same : take (length part) (drop at text) ∷ partsFrom text (at + length part + 1) ≡ part ∷ rest = sym (here .left) ∙ e in
+    record { inside = here .inside; stands = cc; next = cc }
 
 pub part-none : (text : List ℕ) (at : ℕ) → partStepAt text at .answer ≡ End → partsFrom text at ≡ []
 part-none text at e = go (partsFrom text at) e

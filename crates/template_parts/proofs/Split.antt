@@ -3,7 +3,7 @@
 -- Assumes nothing.
 use mathlib.Core.Path.{_≡_, refl, ap, sym, _∙_}
 use mathlib.Core.Bool.{Bool, true, false, cond}
-use Prim.Native.Nat.{ℕ, suc, _≤_}
+use Prim.Native.Nat.{ℕ, zero, suc, _≤_}
 use native.Mathlib.Omega.{arith}
 use mathlib.Core.List.{List, [], _∷_, _++_, append-nil}
 use lib.Dec.{eqb}
@@ -45,6 +45,21 @@ split-few separator (byte ∷ text) = go (eqb byte separator) (split-few separat
     go : (here : Bool) → length (split separator text) ≤ suc (length text) → length (cond here ([] ∷ split separator text) (led byte (split separator text))) ≤ suc (suc (length text))
     go true few = omega arith
     go false few = omega (arith, led-few byte (split separator text))
+
+led-many : (byte : ℕ) (parts : List (List ℕ)) → length parts ≤ length (led byte parts)
+led-many byte [] = omega arith
+led-many byte (part ∷ parts) = omega arith
+
+-- from a place on there are no more
+pub split-drop : (separator : ℕ) (text : List ℕ) (i : ℕ) → length (split separator (drop i text)) ≤ length (split separator text)
+unfolding split
+split-drop separator text zero = omega arith
+split-drop separator [] (suc i) = omega arith
+split-drop separator (byte ∷ text) (suc i) = go (eqb byte separator) (split-drop separator text i)
+  where
+    go : (here : Bool) → length (split separator (drop i text)) ≤ length (split separator text) → length (split separator (drop i text)) ≤ length (cond here ([] ∷ split separator text) (led byte (split separator text)))
+    go true less = omega arith
+    go false less = omega (arith, led-many byte (split separator text))
 
 -- ---- The parts determine the text
 

@@ -1,3 +1,3 @@
-mod Piece
+pub mod Piece
 pub mod Lies
 mod Names

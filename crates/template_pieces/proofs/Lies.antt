@@ -1,7 +1,6 @@
 -- A piece that was read: the id of a special piece lies in the text where its numbers say.
 -- Assumes nothing.
 use mathlib.Core.Path.{_≡_, refl, ap, subst}
-use mathlib.Core.Option.{Option, none as nothing, some}
 use Prim.Native.Nat.{ℕ, _+_, _-_, _≤_}
 use native.Mathlib.Nat.{add-sub-cancel-left}
 use native.Mathlib.Omega.{arith}
@@ -10,9 +9,8 @@ use lib.ListN.{length, getD, take, drop, length-drop}
 use lib.Seq.{take-take, length-take-le}
 use Rattle.template_parts.specs.Parts.{lengthTo}
 use Rattle.template_parts.proofs.Finding.{length-to-most}
-use Rattle.template_pieces.specs.Piece.{Piece, sequenceA, sequenceB, special, colon, readPart, pieceNumbers, pieceAnswer}
-use Rattle.template_pieces.specs.declared.PieceAnswer.the-variants.{Unreadable, Read}
-use Rattle.template_pieces.proofs.Names.{Named, Each, part-named}
+use Rattle.template_pieces.specs.Piece.{Piece, sequenceA, sequenceB, special, colon, PartReading, readable, readPart, pieceNumbers}
+use Rattle.template_pieces.proofs.Names.{Named, Reads, part-named}
 
 -- the id of a special piece lies in the text at its place
 abbrev pub Lies : List ℕ → Piece → Type 0
@@ -30,21 +28,21 @@ lies text start size h (special place id t) n =
     let long : length (take size (drop start text)) ≡ size = length-take-le size (drop start text) (omega (arith, length-drop start text)) in
     rw (n .0, n .1, long) (h, refl)
 
--- what an option that holds a piece says of it
-each-some : (P : Piece → Type 0) (o : Option Piece) {piece : Piece} → Each P o → o ≡ some piece → P piece
-each-some P o {piece} h e = subst (Each P) e h
+-- what is said of the piece that a part is
+reads-some : (P : Piece → Type 0) (o : PartReading) {piece : Piece} → Reads P o → o ≡ readable piece → P piece
+reads-some P o {piece} h e = subst (Reads P) e h
 
 module _ (text : List ℕ) (start size : ℕ) (h : start + size ≤ length text) where
   abbrev part : List ℕ
   part = take size (drop start text)
 
-  pub part-lies : {piece : Piece} → readPart start part ≡ some piece → Lies text piece
+  pub part-lies : {piece : Piece} → readPart start part ≡ readable piece → Lies text piece
   part-lies {piece} e =
       let long : length part ≡ size = length-take-le size (drop start text) (omega (arith, length-drop start text)) in
       let few : lengthTo colon part ≤ size = omega (arith, length-to-most colon part) in
       let name : take (lengthTo colon part) part ≡ take (lengthTo colon part) (drop start text) = take-take (lengthTo colon part) size (drop start text) few in
       lies text start (lengthTo colon part) (omega arith) piece
-      (subst (λ (id : List ℕ). Named start id piece) name (each-some (Named start (take (lengthTo colon part) part)) (readPart start part) (part-named start part) e))
+      (subst (λ (id : List ℕ). Named start id piece) name (reads-some (Named start (take (lengthTo colon part) part)) (readPart start part) (part-named start part) e))
 
 -- ---- What an answer says of a piece
 
@@ -52,30 +50,6 @@ module _ (text : List ℕ) (start size : ℕ) (h : start + size ≤ length text)
 pub record PieceIs (text : List ℕ) (kind type start size : ℕ) (piece : Piece) : Type 0 where
   pub numbers : pieceNumbers piece ≡ kind ∷ type ∷ start ∷ size ∷ []
   pub lies-there : Lies text piece
-
--- What was read is a piece with these numbers.
-pub record ReadAs (text : List ℕ) (answer : Option Piece) (kind type start size : ℕ) : Type 0 where
-  pub piece : Piece
-  pub holds : answer ≡ some piece
-  pub is : PieceIs text kind type start size piece
-
-pub answer-none : (o : Option Piece) → pieceAnswer o ≡ Unreadable → o ≡ nothing
-unfolding pieceAnswer
-answer-none nothing e = refl
-answer-none (some (sequenceA t)) e = cc
-answer-none (some (sequenceB t)) e = cc
-answer-none (some (special s id t)) e = cc
-
-answer-some : (text : List ℕ) (o : Option Piece) {kind type start size : ℕ} → ((p : Piece) → o ≡ some p → Lies text p) → pieceAnswer o ≡ Read kind type start size → ReadAs text o kind type start size
-unfolding pieceAnswer
-answer-some text nothing there e = let z : _≡_ {A = ℕ} 0 1 = cc in absurd (omega arith)
-answer-some text (some (sequenceA t)) there e = record { piece = sequenceA t; holds = refl; is = record { numbers = cc; lies-there = tt } }
-answer-some text (some (sequenceB t)) there e = record { piece = sequenceB t; holds = refl; is = record { numbers = cc; lies-there = tt } }
-answer-some text (some (special s id t)) there e = record { piece = special s id t; holds = refl; is = record { numbers = cc; lies-there = there (special s id t) refl } }
-
-pub piece-read : (text : List ℕ) (start size : ℕ) → start + size ≤ length text → {kind type place long : ℕ} → pieceAnswer (readPart start (take size (drop start text))) ≡ Read kind type place long
-    → ReadAs text (readPart start (take size (drop start text))) kind type place long
-piece-read text start size h e = answer-some text (readPart start (take size (drop start text))) (λ p. part-lies text start size h {piece = p}) e
 
 -- ---- What the numbers say
 

@@ -1,4 +1,4 @@
--- The piece that a part of a template is (document 01, module 7).
+-- The piece that a part of a template is, or why it is none (document 01, module 7; document 02, request 02).
 -- Assumes nothing: these are definitions.
 use mathlib.Core.Bool.{Bool, true, false, _&&_, _||_, cond}
 use mathlib.Core.Option.{Option, none as nothing, some, Option·map}
@@ -8,6 +8,8 @@ use lib.Dec.{eqb}
 use lib.ListN.{length}
 use Rattle.template_parts.specs.Split.{split}
 use Rattle.template_numbers.specs.Number.{readNumber}
+use Rattle.record.specs.declared.Why.{Why}
+use Rattle.record.specs.declared.Why.the-variants.{MoreThanOneColon, BadTypeNumber, UnknownSequenceName}
 use Rattle.template_pieces.specs.declared.PieceAnswer.{PieceAnswer}
 use Rattle.template_pieces.specs.declared.PieceAnswer.the-variants.{Unreadable, Read}
 
@@ -16,6 +18,11 @@ pub data Piece : Type 0 where
   sequenceA : ℕ → Piece
   sequenceB : ℕ → Piece
   special : ℕ → List ℕ → ℕ → Piece
+
+-- What a part is: a piece, or unreadable, and why.
+pub data PartReading : Type 0 where
+  unreadable : Why → PartReading
+  readable : Piece → PartReading
 
 -- the bytes `$`, `:`, `A`, `a`, `B`, `b`
 abbrev pub dollar : ℕ
@@ -61,19 +68,26 @@ typed type (sequenceA _) = sequenceA type
 typed type (sequenceB _) = sequenceB type
 typed type (special start id _) = special start id type
 
-unfoldable pub pieceTyped : Option ℕ → Option Piece → Option Piece
-pieceTyped nothing piece = nothing
-pieceTyped (some type) piece = Option·map (typed type) piece
+-- "21 unknown sequence name": all that a name can be refused for
+abbrev pub byName : Option Piece → PartReading
+byName nothing = unreadable UnknownSequenceName
+byName (some piece) = readable piece
 
--- "A part has at most one colon; after it a u32": the piece of a part, by what stands between its colons
-abbrev pub ofColons : ℕ → List (List ℕ) → Option Piece
-ofColons start [] = nothing
-ofColons start (id ∷ []) = named start id
+-- "20 bad type number", and then the name
+unfoldable pub pieceTyped : Option ℕ → Option Piece → PartReading
+pieceTyped nothing piece = unreadable BadTypeNumber
+pieceTyped (some type) piece = byName (Option·map (typed type) piece)
+
+-- "A part has at most one colon; after it a u32"; "Inside a part the order is colons, type number, sequence name": what a part
+-- is, by what stands between its colons, which is one text at least
+abbrev pub ofColons : ℕ → List (List ℕ) → PartReading
+ofColons start [] = unreadable MoreThanOneColon
+ofColons start (id ∷ []) = byName (named start id)
 ofColons start (id ∷ number ∷ []) = pieceTyped (readNumber number) (named start id)
-ofColons start (id ∷ number ∷ more ∷ rest) = nothing
+ofColons start (id ∷ number ∷ more ∷ rest) = unreadable MoreThanOneColon
 
--- the piece of a part that starts at a place of the text, unless it cannot be read
-unfoldable pub readPart : ℕ → List ℕ → Option Piece
+-- what a part is that starts at a place of the text
+unfoldable pub readPart : ℕ → List ℕ → PartReading
 readPart start part = ofColons start (split colon part)
 
 -- "A piece is kind (0 A, 1 B, 2 special), type, id start and length in the text (0 for A, B)"
@@ -82,8 +96,8 @@ pieceNumbers (sequenceA type) = 0 ∷ type ∷ 0 ∷ 0 ∷ []
 pieceNumbers (sequenceB type) = 1 ∷ type ∷ 0 ∷ 0 ∷ []
 pieceNumbers (special start id type) = 2 ∷ type ∷ start ∷ length id ∷ []
 
-unfoldable pub pieceAnswer : Option Piece → PieceAnswer
-pieceAnswer nothing = Unreadable
-pieceAnswer (some (sequenceA type)) = Read 0 type 0 0
-pieceAnswer (some (sequenceB type)) = Read 1 type 0 0
-pieceAnswer (some (special start id type)) = Read 2 type start (length id)
+unfoldable pub pieceAnswer : PartReading → PieceAnswer
+pieceAnswer (unreadable why) = Unreadable why
+pieceAnswer (readable (sequenceA type)) = Read 0 type 0 0
+pieceAnswer (readable (sequenceB type)) = Read 1 type 0 0
+pieceAnswer (readable (special start id type)) = Read 2 type start (length id)

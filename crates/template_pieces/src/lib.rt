@@ -4,7 +4,9 @@ ghost use mathlib.Core.Path.{_≡_};
 ghost use Prim.Native.Nat.{_+_, _≤_};
 ghost use lib.ListN.{length, take, drop};
 ghost use Rattle.template_numbers.specs.Number.{readNumber};
-ghost use Rattle.template_pieces.specs.Piece.{sequenceA, sequenceOf, named, readPart, pieceAnswer};
+ghost use Rattle.template_pieces.specs.Piece.{sequenceA, sequenceOf, named, byName, readPart, pieceAnswer};
+ghost use Rattle.template_pieces.specs.Contracts.{withoutNumber};
+use record::Why;
 use template_numbers::NumberAnswer;
 
 const DOLLAR: u8 = b'$';
@@ -30,9 +32,10 @@ impl Kind {
     pub const SPECIAL: u32 = 2;
 }
 
-// What a part is: its kind (0 A, 1 B, 2 special), its type, and its id's start and length in the text (0 for A, B).
+// What a part is: unreadable, and why; or its kind (0 A, 1 B, 2 special), its type, and its id's start and length in the text (0
+// for A, B).
 pub enum PieceAnswer {
-    Unreadable,
+    Unreadable(Why),
     Read {
         kind: u32,
         type_id: u32,
@@ -57,18 +60,20 @@ fn piece_of(part: &[u8], start: usize) -> PieceAnswer
     if end == part.len() {
         return named(part, start);
     }
-    // A second colon is no digit, so it leaves no number.
-    let NumberAnswer::Number(type_id) = template_numbers::read_number(&part[end + 1..]) else {
-        return PieceAnswer::Unreadable;
+    let rest = &part[end + 1..];
+    let NumberAnswer::Number(type_id) = template_numbers::read_number(rest) else {
+        return PieceAnswer::Unreadable(without_number(rest));
     };
+    // A second colon is no digit, so where a number was read there is none.
+    let piece = named(&part[..end], start);
     let PieceAnswer::Read {
         kind,
         type_id: _,
         start,
         length,
-    } = named(&part[..end], start)
+    } = piece
     else {
-        return PieceAnswer::Unreadable;
+        return piece;
     };
     PieceAnswer::Read {
         kind,
@@ -78,9 +83,19 @@ fn piece_of(part: &[u8], start: usize) -> PieceAnswer
     }
 }
 
+// Why there is no type in what follows a part's first colon: a second colon goes before a bad number.
+fn without_number(rest: &[u8]) -> Why
+    ensures { λ r. ⌜ r ≡ withoutNumber (now (rest .entry)) ⌝ }
+{
+    if template_parts::find(rest, 0, COLON) == rest.len() {
+        return Why::BadTypeNumber;
+    }
+    Why::MoreThanOneColon
+}
+
 // The piece that a name is, without a type after it: a sequence after a dollar sign, else a special id.
 fn named(id: &[u8], start: usize) -> PieceAnswer
-    ensures { λ r. ⌜ r ≡ pieceAnswer (named start (now (id .entry))) ⌝ }
+    ensures { λ r. ⌜ r ≡ pieceAnswer (byName (named start (now (id .entry)))) ⌝ }
 {
     if id.len() > 0 {
         if id[0] == DOLLAR {
@@ -97,7 +112,7 @@ fn named(id: &[u8], start: usize) -> PieceAnswer
 
 // The sequence that a text after a dollar sign names: a letter, or nothing or a number for A.
 fn sequence_of(name: &[u8]) -> PieceAnswer
-    ensures { λ r. ⌜ r ≡ pieceAnswer (sequenceOf (now (name .entry))) ⌝ }
+    ensures { λ r. ⌜ r ≡ pieceAnswer (byName (sequenceOf (now (name .entry)))) ⌝ }
 {
     if name.len() == 0 {
         return sequence(Kind::A, 0);
@@ -111,7 +126,7 @@ fn sequence_of(name: &[u8]) -> PieceAnswer
 // The sequence that one byte names.
 fn lettered(name: &[u8]) -> PieceAnswer
     requires { ⌜ length (now name) ≡ 1 ⌝ }
-    ensures { λ r. ⌜ r ≡ pieceAnswer (sequenceOf (now (name .entry))) ⌝ }
+    ensures { λ r. ⌜ r ≡ pieceAnswer (byName (sequenceOf (now (name .entry)))) ⌝ }
 {
     let letter = name[0];
     if letter == UPPER_A {
@@ -131,10 +146,10 @@ fn lettered(name: &[u8]) -> PieceAnswer
 
 // A with the type that a number is.
 fn numbered(name: &[u8]) -> PieceAnswer
-    ensures { λ r. ⌜ r ≡ pieceAnswer (Option·map sequenceA (readNumber (now (name .entry)))) ⌝ }
+    ensures { λ r. ⌜ r ≡ pieceAnswer (byName (Option·map sequenceA (readNumber (now (name .entry))))) ⌝ }
 {
     let NumberAnswer::Number(type_id) = template_numbers::read_number(name) else {
-        return PieceAnswer::Unreadable;
+        return PieceAnswer::Unreadable(Why::UnknownSequenceName);
     };
     sequence(Kind::A, type_id)
 }

@@ -2,7 +2,6 @@
 -- Assumes nothing.
 use mathlib.Core.Path.{_≡_, refl, ap, sym, _∙_}
 use mathlib.Core.Bool.{true}
-use mathlib.Core.Option.{Option, none as nothing, some}
 use Prim.Native.Nat.{ℕ, suc, _+_, _*_, _≤_, _<_}
 use native.Mathlib.Omega.{arith}
 use mathlib.Core.List.{List, [], _∷_, _++_, flatMap, append-nil}
@@ -11,11 +10,12 @@ use lib.Seq.{sets, length-sets}
 use Rattle.lists.proofs.FlatMap.{flatMap-append}
 use Rattle.lists.proofs.Sets.{sets-append, sets-over}
 use Rattle.record.specs.Outcome.{over}
+use Rattle.record.specs.declared.Fault.{Fault}
 use Rattle.record.specs.declared.Refusal.{Refusal}
 use Rattle.record.specs.declared.Refusal.the-variants.{PartUnreadable}
 use Rattle.template_parts.specs.Parts.{parts}
-use Rattle.template_pieces.specs.Piece.{Piece, sequenceA, sequenceB, special, readPart, pieceNumbers}
-use Rattle.template_text.specs.Template.{mostParts, pieceWidth, follows, readParts, unread, short, ofPieces, readTemplate, templateAnswer, numbersOf, templateOf, mostBytes}
+use Rattle.template_pieces.specs.Piece.{Piece, sequenceA, sequenceB, special, PartReading, unreadable, readable, readPart, pieceNumbers}
+use Rattle.template_text.specs.Template.{mostParts, pieceWidth, TemplateReading, unread, reads, follows, readParts, short, readTemplate, templateAnswer, numbersOf, templateOf, mostBytes}
 use Rattle.template_text.specs.Contracts.{RoomFor, Gathered}
 use Rattle.template_text.specs.declared.TemplateAnswer.{TemplateAnswer}
 use Rattle.template_text.specs.declared.TemplateAnswer.the-variants.{Refused, Read}
@@ -24,7 +24,7 @@ use Rattle.template_text.proofs.Answers.{short-is, template-short}
 use Rattle.template_text.proofs.Walked.{Walked, walked-start}
 use Rattle.template_text.specs.Comes.{comesAt}
 use Rattle.template_text.specs.declared.PieceStep.the-variants.{End, Unreadable, Read as Comes}
-use Rattle.template_text.proofs.Coming.{Passing, come-end, come-bad, come-piece}
+use Rattle.template_text.proofs.Coming.{Passing, comes}
 
 -- ---- The numbers of pieces
 
@@ -63,17 +63,17 @@ module _ {text numbers : List ℕ} {at count : ℕ} {numbers′ : List ℕ} (g :
 
   pub gather-end : comesAt text at ≡ End → Gathered text numbers (Read count) numbers′
   gather-end e =
-      let all : readParts 0 (parts text) ≡ some (g .passed) = come-end (g .walked) e in
+      let all : readParts 0 0 (parts text) ≡ reads (g .passed) = comes (g .walked) e in
       record { answers = rw all (ap Read (g .counted)); kept = kept; written = λ ps is. let same : g .passed ≡ ps = cc in rw (← same) (g .written) }
 
-  pub gather-bad : comesAt text at ≡ Unreadable → Gathered text numbers (Refused PartUnreadable) numbers′
-  gather-bad e =
-      let none : readParts 0 (parts text) ≡ nothing = come-bad (g .walked) e in
+  pub gather-bad : {fault : Fault} → comesAt text at ≡ Unreadable fault → Gathered text numbers (Refused (PartUnreadable fault)) numbers′
+  gather-bad {fault} e =
+      let none : readParts 0 0 (parts text) ≡ unread (PartUnreadable fault) = comes (g .walked) e in
       record { answers = rw none; kept = kept; written = λ ps is. let z : _≡_ {A = ℕ} 0 1 = cc in absurd (omega arith) }
 
   module _ {kind type place long next : ℕ} (e : comesAt text at ≡ Comes kind type place long next) where
     pub gather-passing : Passing text at (g .passed) kind type place long next
-    gather-passing = come-piece (g .walked) e
+    gather-passing = comes (g .walked) e
 
     pub gather-few : RoomFor text numbers → count < mostParts
     gather-few room = omega (arith, g .counted, gather-passing .few, short-is text (room .is-short) .1)
@@ -103,35 +103,35 @@ module _ {text numbers : List ℕ} {at count : ℕ} {numbers′ : List ℕ} (g :
 -- ---- The whole answer
 
 -- as many pieces as parts
-pub pieces-number : (start : ℕ) (left : List (List ℕ)) {ps : List Piece} → readParts start left ≡ some ps → length ps ≡ length left
+pub pieces-number : (part place : ℕ) (left : List (List ℕ)) {ps : List Piece} → readParts part place left ≡ reads ps → length ps ≡ length left
 unfolding readParts
-pieces-number start [] {ps} e = let none : ps ≡ [] = cc in ap length none
-pieces-number start (part ∷ rest) {ps} e = go (readPart start part) (readParts (start + length part + 1) rest) (λ qs q. pieces-number (start + length part + 1) rest {ps = qs} q) e
+pieces-number part place [] {ps} e = let none : ps ≡ [] = cc in ap length none
+pieces-number part place (text ∷ rest) {ps} e = go (readPart place text) (readParts (part + 1) (place + length text + 1) rest) (λ qs q. pieces-number (part + 1) (place + length text + 1) rest {ps = qs} q) e
   where
-    go : (piece : Option Piece) (pieces : Option (List Piece)) → ((qs : List Piece) → pieces ≡ some qs → length qs ≡ length rest) → follows piece pieces ≡ some ps → length ps ≡ suc (length rest)
-    go nothing pieces more e = let z : _≡_ {A = ℕ} 0 1 = cc in absurd (omega arith)
-    go (some p) nothing more e = let z : _≡_ {A = ℕ} 0 1 = cc in absurd (omega arith)
-    go (some p) (some qs) more e = let all : ps ≡ p ∷ qs = cc in ap length all ∙ ap suc (more qs refl)
+    go : (piece : PartReading) (pieces : TemplateReading) → ((qs : List Piece) → pieces ≡ reads qs → length qs ≡ length rest) → follows part place piece pieces ≡ reads ps → length ps ≡ suc (length rest)
+    go (unreadable why) pieces more e = let z : _≡_ {A = ℕ} 0 1 = cc in absurd (omega arith)
+    go (readable p) (unread k) more e = let z : _≡_ {A = ℕ} 0 1 = cc in absurd (omega arith)
+    go (readable p) (reads qs) more e = let all : ps ≡ p ∷ qs = cc in ap length all ∙ ap suc (more qs refl)
 
 abbrev zeros : List ℕ
 zeros = replicate (mostParts * pieceWidth) 0
 
 module _ {text : List ℕ} {answer : TemplateAnswer} {numbers : List ℕ} (is-short : short text ≡ true) (g : Gathered text zeros answer numbers) where
-  pub gathered-none : {why : Refusal} → answer ≡ Refused why → readTemplate text ≡ unread PartUnreadable
-  gathered-none {why} e = template-short text is-short ∙ go (readParts 0 (parts text)) (sym (g .answers) ∙ e)
+  pub gathered-none : {why : Refusal} → answer ≡ Refused why → readTemplate text ≡ unread why
+  gathered-none {why} e = template-short text is-short ∙ go (readParts 0 0 (parts text)) (sym (g .answers) ∙ e)
     where
-      go : (o : Option (List Piece)) → templateAnswer (ofPieces o) ≡ Refused why → ofPieces o ≡ unread PartUnreadable
-      go nothing e = refl
-      go (some ps) e = let z : _≡_ {A = ℕ} 0 1 = cc in absurd (omega arith)
+      go : (r : TemplateReading) → templateAnswer r ≡ Refused why → r ≡ unread why
+      go (unread k) e = cc
+      go (reads ps) e = let z : _≡_ {A = ℕ} 0 1 = cc in absurd (omega arith)
 
   pub gathered-some : {count : ℕ} → answer ≡ Read count → _≡_ {A = Template} (record { answer = answer; pieces = numbers }) (templateOf (readTemplate text))
   unfolding templateOf
-  gathered-some {count} e = rw (template-short text is-short) (go (readParts 0 (parts text)) (g .answers) (g .written) (λ ps q. pieces-number 0 (parts text) {ps = ps} q))
+  gathered-some {count} e = rw (template-short text is-short) (go (readParts 0 0 (parts text)) (g .answers) (g .written) (λ ps q. pieces-number 0 0 (parts text) {ps = ps} q))
     where
-      go : (o : Option (List Piece)) → answer ≡ templateAnswer (ofPieces o) → ((ps : List Piece) → o ≡ some ps → numbers ≡ sets zeros 0 (flatMap pieceNumbers ps))
-          → ((ps : List Piece) → o ≡ some ps → length ps ≡ length (parts text))
-          → _≡_ {A = Template} (record { answer = answer; pieces = numbers }) (record { answer = templateAnswer (ofPieces o); pieces = over (numbersOf (ofPieces o)) zeros })
-      go nothing a w n = let z : _≡_ {A = ℕ} 0 1 = cc in absurd (omega arith)
-      go (some ps) a w n =
+      go : (r : TemplateReading) → answer ≡ templateAnswer r → ((ps : List Piece) → r ≡ reads ps → numbers ≡ sets zeros 0 (flatMap pieceNumbers ps))
+          → ((ps : List Piece) → r ≡ reads ps → length ps ≡ length (parts text))
+          → _≡_ {A = Template} (record { answer = answer; pieces = numbers }) (record { answer = templateAnswer r; pieces = over (numbersOf r) zeros })
+      go (unread k) a w n = let z : _≡_ {A = ℕ} 0 1 = cc in absurd (omega arith)
+      go (reads ps) a w n =
           let room : length (flatMap pieceNumbers ps) ≤ length zeros = omega (arith, length-pieces ps, n ps refl, short-is text is-short .1) in
           λ i. record { answer = a i; pieces = (w ps refl ∙ sets-over zeros (flatMap pieceNumbers ps) room) i }

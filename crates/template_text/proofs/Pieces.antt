@@ -1,54 +1,44 @@
 -- The pieces of a template that was read, by their numbers: what stands at each place of the answer, and that the id of each
 -- special piece lies in the text.
 -- Assumes nothing.
-use mathlib.Core.Path.{_≡_, refl, ap, sym, _∙_}
-use mathlib.Core.Option.{Option, none as nothing, some}
+use mathlib.Core.Path.{_≡_, refl, ap, _∙_}
 use Prim.Native.Nat.{ℕ, zero, suc, _+_, _*_, _<_}
 use native.Mathlib.Omega.{arith}
 use mathlib.Core.List.{List, [], _∷_, _++_, flatMap, append-assoc}
-use lib.ListN.{length, getD, take, drop, replicate, List·getD-append}
+use lib.ListN.{length, getD, drop, replicate, List·getD-append}
 use lib.Seq.{getD-append-add}
 use borrow.Author.Tests.{le-leb}
 use Rattle.lists.specs.Lists.{All}
 use Rattle.template_parts.specs.Parts.{parts, partsFrom}
-use Rattle.template_parts.proofs.Parts.{Here, part-found}
-use Rattle.template_pieces.specs.Piece.{Piece, sequenceA, sequenceB, special, readPart, pieceNumbers}
+use Rattle.template_parts.proofs.Parts.{Leads, part-leads}
+use Rattle.template_pieces.specs.Piece.{Piece, sequenceA, sequenceB, special, PartReading, unreadable, readable, readPart, pieceNumbers}
 use Rattle.template_pieces.proofs.Lies.{Lies, PieceIs, part-lies}
-use Rattle.template_text.specs.Template.{mostParts, pieceWidth, follows, readParts, reads, readTemplate, templateOf}
+use Rattle.template_text.specs.Template.{mostParts, pieceWidth, TemplateReading, unread, reads, follows, readParts, readTemplate, templateOf}
 use Rattle.template_text.proofs.Answers.{template-holds}
 use Rattle.template_text.proofs.Gathering.{piece-long}
 
 -- ---- Every special id lies in the text
 
 module _ (text : List ℕ) where
-  lie-from : (left : List (List ℕ)) (at : ℕ) → partsFrom text at ≡ left → {ps : List Piece} → readParts at left ≡ some ps → All (Lies text) ps
+  lie-from : (left : List (List ℕ)) (number at : ℕ) → partsFrom text at ≡ left → {ps : List Piece} → readParts number at left ≡ reads ps → All (Lies text) ps
   unfolding readParts
-  lie-from [] at e {ps} r = let none : ps ≡ [] = cc in rw none tt
-  lie-from (part ∷ rest) at e {ps} r =
-      go (readPart at part) (readParts (at + length part + 1) rest) refl (λ qs q. lie-from rest (at + length part + 1) next {ps = qs} q) r
+  lie-from [] number at e {ps} r = let none : ps ≡ [] = cc in rw none tt
+  lie-from (part ∷ rest) number at e {ps} r =
+      go (readPart at part) (readParts (number + 1) (at + length part + 1) rest) refl (λ qs q. lie-from rest (number + 1) (at + length part + 1) (leads .next) {ps = qs} q) r
     where
-      here : Here text at at (length part)
-      here = part-found text at (rw e)
+      leads : Leads text at part rest
+      leads = part-leads text at e
 
-      same : take (length part) (drop at text) ∷ partsFrom text (at + length part + 1) ≡ part ∷ rest
-      same = sym (here .left) ∙ e
-
-      first : take (length part) (drop at text) ≡ part
-      first = let f = same in cc
-
-      next : partsFrom text (at + length part + 1) ≡ rest
-      next = let f = same in cc
-
-      go : (p : Option Piece) (more : Option (List Piece)) → readPart at part ≡ p → ((qs : List Piece) → more ≡ some qs → All (Lies text) qs) → follows p more ≡ some ps → All (Lies text) ps
-      go nothing more a h f = let z : _≡_ {A = ℕ} 0 1 = cc in absurd (omega arith)
-      go (some p) nothing a h f = let z : _≡_ {A = ℕ} 0 1 = cc in absurd (omega arith)
-      go (some p) (some qs) a h f =
+      go : (p : PartReading) (more : TemplateReading) → readPart at part ≡ p → ((qs : List Piece) → more ≡ reads qs → All (Lies text) qs) → follows number at p more ≡ reads ps → All (Lies text) ps
+      go (unreadable why) more a h f = let z : _≡_ {A = ℕ} 0 1 = cc in absurd (omega arith)
+      go (readable p) (unread k) a h f = let z : _≡_ {A = ℕ} 0 1 = cc in absurd (omega arith)
+      go (readable p) (reads qs) a h f =
           let all : ps ≡ p ∷ qs = cc in
-          rw all (part-lies text at (length part) (here .inside) (ap (readPart at) first ∙ a), h qs refl)
+          rw all (part-lies text at (length part) (leads .inside) (ap (readPart at) (leads .stands) ∙ a), h qs refl)
 
   pub pieces-lie : {ps : List Piece} → readTemplate text ≡ reads ps → All (Lies text) ps
   unfolding partsFrom
-  pieces-lie {ps} e = lie-from (parts text) 0 (rw (le-leb 0 (length text) (omega arith))) (template-holds text e)
+  pieces-lie {ps} e = lie-from (parts text) 0 0 (rw (le-leb 0 (length text) (omega arith))) (template-holds text e)
 
   lie-at : (ps : List Piece) (i : ℕ) (d : Piece) → i < length ps → All (Lies text) ps → Lies text (getD ps i d)
   lie-at [] i d h all = absurd (omega arith)

@@ -26,9 +26,19 @@ examples =
     -- the largest type; leading zeros; a sign alone, no number, and a sign after digits are none
     sample (36 ∷ 52 ∷ 50 ∷ 57 ∷ 52 ∷ 57 ∷ 54 ∷ 55 ∷ 50 ∷ 57 ∷ 53 ∷ []) (0 ∷ 0 ∷ 4294967295 ∷ 0 ∷ 0 ∷ [])
     ∷ sample (36 ∷ 66 ∷ 58 ∷ 48 ∷ 48 ∷ 55 ∷ []) (0 ∷ 1 ∷ 7 ∷ 0 ∷ 0 ∷ [])
-    ∷ sample (120 ∷ 58 ∷ 43 ∷ []) (7 ∷ [])
-    ∷ sample (120 ∷ 58 ∷ []) (7 ∷ [])
-    ∷ sample (36 ∷ 49 ∷ 43 ∷ []) (7 ∷ [])
+    ∷ sample (120 ∷ 58 ∷ 43 ∷ []) (20 ∷ 0 ∷ 0 ∷ [])
+    ∷ sample (120 ∷ 58 ∷ []) (20 ∷ 0 ∷ 0 ∷ [])
+    ∷ sample (36 ∷ 49 ∷ 43 ∷ []) (21 ∷ 0 ∷ 0 ∷ [])
+    -- inside a part colons, type number, sequence name: `$x:1:1`, `$x:y`, `$x:1`; `::`, `:`, `$:`
+    ∷ sample (36 ∷ 120 ∷ 58 ∷ 49 ∷ 58 ∷ 49 ∷ []) (19 ∷ 0 ∷ 0 ∷ [])
+    ∷ sample (36 ∷ 120 ∷ 58 ∷ 121 ∷ []) (20 ∷ 0 ∷ 0 ∷ [])
+    ∷ sample (36 ∷ 120 ∷ 58 ∷ 49 ∷ []) (21 ∷ 0 ∷ 0 ∷ [])
+    ∷ sample (58 ∷ 58 ∷ []) (19 ∷ 0 ∷ 0 ∷ [])
+    ∷ sample (58 ∷ []) (20 ∷ 0 ∷ 0 ∷ [])
+    ∷ sample (36 ∷ 58 ∷ []) (20 ∷ 0 ∷ 0 ∷ [])
+    -- an empty part counts, `a  $C`; the first part at fault decides, `x: a:b:c`
+    ∷ sample (97 ∷ 32 ∷ 32 ∷ 36 ∷ 67 ∷ []) (21 ∷ 2 ∷ 3 ∷ [])
+    ∷ sample (120 ∷ 58 ∷ 32 ∷ 97 ∷ 58 ∷ 98 ∷ 58 ∷ 99 ∷ []) (20 ∷ 0 ∷ 0 ∷ [])
     -- the letters, and a type that replaces one
     ∷ sample (36 ∷ 32 ∷ 36 ∷ 65 ∷ 32 ∷ 36 ∷ 97 ∷ 32 ∷ 36 ∷ 66 ∷ 32 ∷ 36 ∷ 98 ∷ []) (0 ∷ 0 ∷ 0 ∷ 0 ∷ 0 ∷ 0 ∷ 0 ∷ 0 ∷ 0 ∷ 0 ∷ 0 ∷ 0 ∷ 0 ∷ 1 ∷ 0 ∷ 0 ∷ 0 ∷ 1 ∷ 0 ∷ 0 ∷ 0 ∷ [])
     ∷ sample (36 ∷ 53 ∷ 58 ∷ 54 ∷ []) (0 ∷ 0 ∷ 6 ∷ 0 ∷ 0 ∷ [])
@@ -42,7 +52,7 @@ Right s = s .said ≡ s .expected
 
 pub all-right : All Right examples
 unfolding split decimalAfter afterSign readNumber same sequenceOf named pieceTyped readPart readParts readTemplate flatMap
-all-right = (refl, (refl, (refl, (refl, (refl, (refl, (refl, (refl, (refl, tt)))))))))
+all-right = (refl, (refl, (refl, (refl, (refl, (refl, (refl, (refl, (refl, (refl, (refl, (refl, (refl, (refl, (refl, (refl, (refl, tt)))))))))))))))))
 
 -- `$C` and 64 spaces are 65 parts, which give 8 although one cannot be read
 pub many-parts : readTemplate (36 ∷ 67 ∷ replicate 64 32) ≡ unread TemplateTooLong

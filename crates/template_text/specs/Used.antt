@@ -14,3 +14,8 @@ unsetText Pair = 36 ∷ 65 ∷ 58 ∷ 48 ∷ 32 ∷ 36 ∷ 66 ∷ 58 ∷ 49 ∷ 
 -- the text of a template that is set, also an empty one; else the text for an unset one
 abbrev pub textUsed : Bool → List ℕ → Which → List ℕ
 textUsed set text which = cond set text (unsetText which)
+
+-- which of the two in a number: "0 single or 1 pair"
+abbrev pub whichNumber : Which → ℕ
+whichNumber Single = 0
+whichNumber Pair = 1

@@ -1,10 +1,14 @@
 // Reading a template text, and the text that is used where none is set (document 01, modules 7 and 8).
 ghost use mathlib.Core.Bool.{cond};
 ghost use mathlib.Core.Path.{_≡_};
+ghost use Prim.Native.Nat.{_≤_};
+ghost use lib.ListN.{length};
 ghost use Rattle.template_text.specs.Template.{readTemplate, short, unread, templateOf};
-ghost use Rattle.template_text.specs.Comes.{comesAt};
+ghost use Rattle.template_text.specs.Comes.{comesAt, faultIn};
 ghost use Rattle.template_text.specs.Contracts.{RoomFor, Gathered};
+use record::Fault;
 use record::Refusal;
+use record::Why;
 use template_parts::PartAnswer;
 use template_pieces::PieceAnswer;
 
@@ -14,10 +18,11 @@ pub enum TemplateAnswer {
     Read(usize),
 }
 
-// What comes at a place of a text: its end, a part that cannot be read, or a piece and the place after it.
+// What comes at a place of a text: its end; a part that cannot be read, with why, its number and its place; or a piece and the
+// place after it.
 pub enum PieceStep {
     End,
-    Unreadable,
+    Unreadable(Fault),
     Read {
         kind: u32,
         type_id: u32,
@@ -43,7 +48,7 @@ impl Template {
     pub const PIECES: usize = Template::MOST_PARTS * Template::PIECE_WIDTH;
 }
 
-// Reads a template text. Refused with 8 above 4,096 bytes or 64 parts, then with 7.
+// Reads a template text. Refused with 8 above 4,096 bytes or 64 parts, then with 19 to 21 for its first part at fault.
 pub fn read_template(text: &[u8]) -> Template
     ensures { λ r. ⌜ r ≡ templateOf (readTemplate (now (text .entry))) ⌝ }
 {
@@ -52,9 +57,9 @@ pub fn read_template(text: &[u8]) -> Template
     }
     let mut pieces = [0; Template::PIECES];
     let answer = read_pieces(text, &mut pieces);
-    let TemplateAnswer::Read(_) = answer else {
-        return refused(Refusal::PartUnreadable);
-    };
+    if let TemplateAnswer::Refused(why) = answer {
+        return refused(why);
+    }
     Template { answer, pieces }
 }
 
@@ -77,23 +82,24 @@ fn read_pieces(text: &[u8], pieces: &mut [u32]) -> TemplateAnswer
     let mut count: usize = 0;
     loop {
         let step = piece_from(text, at);
-        match step {
-            PieceStep::End => return TemplateAnswer::Read(count),
-            PieceStep::Unreadable => return TemplateAnswer::Refused(Refusal::PartUnreadable),
-            PieceStep::Read {
-                kind,
-                type_id,
-                start,
-                length,
-                next,
-            } => {
-                let numbers = [kind, type_id, start as u32, length as u32];
-                let place = count * Template::PIECE_WIDTH;
-                lists::copy(&numbers, 0, Template::PIECE_WIDTH, pieces, place);
-                count += 1;
-                at = next;
-            }
-        }
+        let PieceStep::Read {
+            kind,
+            type_id,
+            start,
+            length,
+            next,
+        } = step
+        else {
+            let PieceStep::Unreadable(fault) = step else {
+                return TemplateAnswer::Read(count);
+            };
+            return TemplateAnswer::Refused(Refusal::PartUnreadable(fault));
+        };
+        let numbers = [kind, type_id, start as u32, length as u32];
+        let place = count * Template::PIECE_WIDTH;
+        lists::copy(&numbers, 0, Template::PIECE_WIDTH, pieces, place);
+        count += 1;
+        at = next;
     }
 }
 
@@ -106,21 +112,36 @@ pub fn piece_from(text: &[u8], at: usize) -> PieceStep
     let PartAnswer::Part { start, length } = answer else {
         return PieceStep::End;
     };
-    let PieceAnswer::Read {
-        kind,
-        type_id,
-        start,
-        length,
-    } = template_pieces::read_piece(text, start, length)
-    else {
-        return PieceStep::Unreadable;
-    };
-    PieceStep::Read {
-        kind,
-        type_id,
-        start,
-        length,
-        next: step.next,
+    let piece = template_pieces::read_piece(text, start, length);
+    match piece {
+        PieceAnswer::Unreadable(why) => PieceStep::Unreadable(fault_at(text, start, why)),
+        PieceAnswer::Read {
+            kind,
+            type_id,
+            start,
+            length,
+        } => PieceStep::Read {
+            kind,
+            type_id,
+            start,
+            length,
+            next: step.next,
+        },
+    }
+}
+
+// The fault of the part at a place. Its number is that of the text's parts without those from there on, so that no walk needs to
+// count parts before one is at fault.
+fn fault_at(text: &[u8], place: usize, why: Why) -> Fault
+    requires { ⌜ place ≤ length (now text) ⌝ }
+    ensures { λ r. ⌜ r ≡ faultIn (now (text .entry)) place why ⌝ }
+{
+    let all = template_parts::count_parts(text);
+    let left = template_parts::count_parts(&text[place..]);
+    Fault {
+        why,
+        part: all - left,
+        place,
     }
 }
 

@@ -15,7 +15,8 @@ use Rattle.template_entries.specs.Table.{Table, entryAt, memberAt, entriesIn, m
 use Rattle.template_find.specs.Last.{lastWith}
 use Rattle.template_text.specs.declared.Which.the-variants.{Single, Pair}
 use Rattle.template_text.specs.Used.{textUsed}
-use Rattle.template_validate.specs.Validation.{validity, validityRefusal}
+use Rattle.template_validate.specs.Validation.{refusedIn, validity, validityRefusal, validityFault}
+use Rattle.template_validate.specs.declared.Validation.{Validation}
 use Rattle.template_walk.specs.Counting.{added, addedBy, addedAnswer, countTold}
 use Rattle.template_known.specs.Known.{known, knownAnswer}
 
@@ -25,25 +26,32 @@ table = readTable (0 ∷ 1 ∷ 0 ∷ 1 ∷ 1 ∷ 1 ∷ 1 ∷ 0 ∷ 2 ∷ 2 ∷ [
 
 -- what a definition says, and what it is to say
 pub record Sample : Type 0 where
-  pub said : ℕ
-  pub expected : ℕ
+  pub said : List ℕ
+  pub expected : List ℕ
 
-abbrev validated : Bool → List ℕ → Bool → List ℕ → ℕ → Sample
-validated single-set single pair-set pair expected = record { said = validityRefusal (validity table (readTemplate (textUsed single-set single Single)) (readTemplate (textUsed pair-set pair Pair))); expected = expected }
+-- the refusal, and the template and its part at fault if they are told
+abbrev validationNumbers : Validation → List ℕ
+validationNumbers v = validityRefusal v ∷ validityFault [] v
+
+abbrev validated : Bool → List ℕ → Bool → List ℕ → List ℕ → Sample
+validated single-set single pair-set pair expected = record { said = validationNumbers (validity table (readTemplate (textUsed single-set single Single)) (readTemplate (textUsed pair-set pair Pair))); expected = expected }
 
 abbrev counted : Bool → List ℕ → ℕ → Sample
-counted set text expected = record { said = countTold (addedAnswer table (readTemplate (textUsed set text Single))); expected = expected }
+counted set text expected = record { said = countTold (addedAnswer table (readTemplate (textUsed set text Single))) ∷ []; expected = expected ∷ [] }
 
 abbrev pub samples : List Sample
 samples =
     -- unset templates are valid; an empty one that is set is an unknown id
-    validated false [] false [] 0
-    ∷ validated true [] false [] 10
-    -- `x $A`; `y`; a pair without B; 7 of the single before 9 of the pair
-    ∷ validated true (120 ∷ 32 ∷ 36 ∷ 65 ∷ []) false [] 0
-    ∷ validated true (121 ∷ []) false [] 10
-    ∷ validated false [] true (36 ∷ 65 ∷ []) 9
-    ∷ validated true (36 ∷ 67 ∷ []) true (36 ∷ 65 ∷ []) 7
+    validated false [] false [] (0 ∷ [])
+    ∷ validated true [] false [] (10 ∷ [])
+    -- `x $A`; `y`; a pair without B; 21 of the single, `$C`, before 9 of the pair
+    ∷ validated true (120 ∷ 32 ∷ 36 ∷ 65 ∷ []) false [] (0 ∷ [])
+    ∷ validated true (121 ∷ []) false [] (10 ∷ [])
+    ∷ validated false [] true (36 ∷ 65 ∷ []) (9 ∷ [])
+    ∷ validated true (36 ∷ 67 ∷ []) true (36 ∷ 65 ∷ []) (21 ∷ 0 ∷ 0 ∷ 0 ∷ [])
+    -- the pair `$A a:b:1`, after a single that is not set, and after one at fault, `x x:`
+    ∷ validated false [] true (36 ∷ 65 ∷ 32 ∷ 97 ∷ 58 ∷ 98 ∷ 58 ∷ 49 ∷ []) (19 ∷ 1 ∷ 1 ∷ 3 ∷ [])
+    ∷ validated true (120 ∷ 32 ∷ 120 ∷ 58 ∷ []) true (36 ∷ 65 ∷ 32 ∷ 97 ∷ 58 ∷ 98 ∷ 58 ∷ 49 ∷ []) (20 ∷ 0 ∷ 1 ∷ 2 ∷ [])
     -- of equal ids the last counts: `x $A x` adds 4, `y` and an unset template add none
     ∷ counted true (120 ∷ 32 ∷ 36 ∷ 65 ∷ 32 ∷ 120 ∷ []) 4
     ∷ counted true (121 ∷ []) 0
@@ -54,5 +62,5 @@ abbrev pub Right : Sample → Type 0
 Right s = s .said ≡ s .expected
 
 pub all-right : All Right samples
-unfolding several lastFrom decimalAfter split afterSign readNumber same sequenceOf named pieceTyped readPart readParts readTemplate entryAt memberAt entriesIn membersIn wellMade readTable lastWith known knownAnswer validity added addedBy addedAnswer
-all-right = (refl, (refl, (refl, (refl, (refl, (refl, (refl, (refl, (refl, tt)))))))))
+unfolding several lastFrom decimalAfter split afterSign readNumber same sequenceOf named pieceTyped readPart readParts readTemplate entryAt memberAt entriesIn membersIn wellMade readTable lastWith known knownAnswer refusedIn validity added addedBy addedAnswer
+all-right = (refl, (refl, (refl, (refl, (refl, (refl, (refl, (refl, (refl, (refl, (refl, tt)))))))))))

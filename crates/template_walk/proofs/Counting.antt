@@ -6,6 +6,7 @@ use Prim.Native.Nat.{ℕ, _+_, _-_, _*_, _≤_, _<_}
 use native.Mathlib.Omega.{arith}
 use mathlib.Core.List.{List, [], _∷_, _++_}
 use lib.ListN.{length, getD, take, drop, length-append}
+use Rattle.record.specs.declared.Fault.{Fault}
 use Rattle.record.specs.declared.Refusal.the-variants.{PartUnreadable, TemplateTooLong}
 use Rattle.lookup_ranges.specs.First.{lastFrom}
 use Rattle.template_pieces.specs.Piece.{Piece, sequenceA, sequenceB, special}
@@ -26,7 +27,7 @@ use Rattle.template_walk.specs.Contracts.{CountedIn, IdsOf}
 use Rattle.template_walk.specs.declared.CountAnswer.the-variants.{Refused, Count}
 use Rattle.template_text.specs.Comes.{comesAt}
 use Rattle.template_text.specs.declared.PieceStep.the-variants.{End, Unreadable, Read}
-use Rattle.template_text.proofs.Coming.{Passing, come-piece}
+use Rattle.template_text.proofs.Coming.{Passing, comes}
 
 -- ---- The ids of one entry
 
@@ -78,13 +79,13 @@ module _ {text entries numbers : List ℕ} {at sum : ℕ} (c : Counting text ent
   unfolding addedAnswer
   count-end e = record { says = λ members table t. rw (walk-end (c .walked) s e) (ap Count (c .sum-is members table t)) }
 
-  pub count-bad : comesAt text at ≡ Unreadable → CountedIn text entries numbers (Refused PartUnreadable)
+  pub count-bad : {fault : Fault} → comesAt text at ≡ Unreadable fault → CountedIn text entries numbers (Refused (PartUnreadable fault))
   unfolding addedAnswer
   count-bad e = record { says = λ members table t. rw (walk-bad (c .walked) s e) }
 
   module _ {kind type place long next : ℕ} (e : comesAt text at ≡ Read kind type place long next) where
     pub count-passing : Passing text at (c .passed) kind type place long next
-    count-passing = come-piece (c .walked) e
+    count-passing = comes (c .walked) e
 
     abbrev piece : Piece
     piece = count-passing .piece

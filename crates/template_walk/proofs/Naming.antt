@@ -5,6 +5,7 @@ use Prim.Native.Nat.{ℕ, _+_}
 use mathlib.Core.List.{List, [], _∷_, _++_}
 use lib.Dec.{eqb}
 use lib.ListN.{getD}
+use Rattle.record.specs.declared.Fault.{Fault}
 use Rattle.record.specs.declared.Refusal.the-variants.{PartUnreadable, TemplateTooLong}
 use Rattle.template_pieces.specs.Piece.{Piece, sequenceA, sequenceB, special}
 use Rattle.template_pieces.proofs.Lies.{PieceIs}
@@ -15,7 +16,7 @@ use Rattle.template_walk.specs.Sequences.{isA, isB, someOk, sequencesAns
 use Rattle.template_walk.specs.declared.SequencesAnswer.the-variants.{Refused, Named}
 use Rattle.template_text.specs.Comes.{comesAt}
 use Rattle.template_text.specs.declared.PieceStep.the-variants.{End, Unreadable, Read}
-use Rattle.template_text.proofs.Coming.{come-piece}
+use Rattle.template_text.proofs.Coming.{Passing, comes}
 
 -- what the kind of a piece says of it
 module _ {text : List ℕ} {kind type start size : ℕ} where
@@ -51,13 +52,13 @@ module _ {text : List ℕ} {at : ℕ} {a b : Bool} (n : Naming text at a b) wher
   unfolding sequencesAnswer
   name-end s e = rw (walk-end (n .walked) s e) (ap₂ Named (n .a-is) (n .b-is))
 
-  pub name-bad : short text ≡ true → comesAt text at ≡ Unreadable → Refused PartUnreadable ≡ sequencesAnswer (readTemplate text)
+  pub name-bad : {fault : Fault} → short text ≡ true → comesAt text at ≡ Unreadable fault → Refused (PartUnreadable fault) ≡ sequencesAnswer (readTemplate text)
   unfolding sequencesAnswer
   name-bad s e = rw (walk-bad (n .walked) s e)
 
   pub name-on : {kind type start size next : ℕ} → comesAt text at ≡ Read kind type start size next → {a′ b′ : Bool} → a′ ≡ (a || eqb kind 0) → b′ ≡ (b || eqb kind 1) → Naming text next a′ b′
-  name-on e {a′} {b′} ea eb =
-      let p = come-piece (n .walked) e in
+  name-on {kind} {type} {start} {size} {next} e {a′} {b′} ea eb =
+      let p : Passing text at (n .passed) kind type start size next = comes (n .walked) e in
       record {
         passed = n .passed ++ (p .piece ∷ []);
         walked = p .walked;

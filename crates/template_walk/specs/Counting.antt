@@ -27,7 +27,7 @@ unfoldable pub addedBy : List Special → List Piece → ℕ
 addedBy table [] = 0
 addedBy table (piece ∷ pieces) = added table piece + addedBy table pieces
 
--- "Count added: 15, 12, 8, 7."
+-- "Count added: 15, 12, 8", then 19 to 21: "counting .. pass the finer answer on"
 unfoldable pub addedAnswer : Table → TemplateReading → CountAnswer
 addedAnswer (faulty k) reading = Refused k
 addedAnswer (sound table) (unread k) = Refused k

@@ -22,7 +22,7 @@ abbrev pub someOk : {A : Type 0} → (A → Bool) → List A → Bool
 someOk t [] = false
 someOk t (x ∷ xs) = t x || someOk t xs
 
--- "8 and 7", or whether it names each
+-- 8 and 19 to 21, or whether it names each
 unfoldable pub sequencesAnswer : TemplateReading → SequencesAnswer
 sequencesAnswer (unread k) = Refused k
 sequencesAnswer (reads pieces) = Named (someOk isA pieces) (someOk isB pieces)

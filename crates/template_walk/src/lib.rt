@@ -22,7 +22,7 @@ pub enum SequencesAnswer {
     Named { a: bool, b: bool },
 }
 
-// Whether a template names A and B. Refused with 8, then 7.
+// Whether a template names A and B. Refused with 8, then with 19 to 21 for its first part at fault.
 pub fn sequences_in(text: &[u8]) -> SequencesAnswer
     ensures { λ r. ⌜ r ≡ sequencesAnswer (readTemplate (now (text .entry))) ⌝ }
 {
@@ -34,21 +34,22 @@ pub fn sequences_in(text: &[u8]) -> SequencesAnswer
     let mut at: usize = 0;
     loop {
         let step = template_text::piece_from(text, at);
-        match step {
-            PieceStep::End => return SequencesAnswer::Named { a, b },
-            PieceStep::Unreadable => return SequencesAnswer::Refused(Refusal::PartUnreadable),
-            PieceStep::Read {
-                kind,
-                type_id: _,
-                start: _,
-                length: _,
-                next,
-            } => {
-                a = seen(a, kind, Kind::A);
-                b = seen(b, kind, Kind::B);
-                at = next;
-            }
-        }
+        let PieceStep::Read {
+            kind,
+            type_id: _,
+            start: _,
+            length: _,
+            next,
+        } = step
+        else {
+            let PieceStep::Unreadable(fault) = step else {
+                return SequencesAnswer::Named { a, b };
+            };
+            return SequencesAnswer::Refused(Refusal::PartUnreadable(fault));
+        };
+        a = seen(a, kind, Kind::A);
+        b = seen(b, kind, Kind::B);
+        at = next;
     }
 }
 
@@ -73,21 +74,22 @@ pub fn count_pieces(text: &[u8], entries: &[u32], added: &[u8]) -> CountAnswer
     let mut at: usize = 0;
     loop {
         let step = template_text::piece_from(text, at);
-        match step {
-            PieceStep::End => return CountAnswer::Count(sum),
-            PieceStep::Unreadable => return CountAnswer::Refused(Refusal::PartUnreadable),
-            PieceStep::Read {
-                kind,
-                type_id: _,
-                start,
-                length,
-                next,
-            } => {
-                at = next;
-                if kind == Kind::SPECIAL {
-                    sum += ids_of(entries, added, &text[start..start + length]);
-                }
-            }
+        let PieceStep::Read {
+            kind,
+            type_id: _,
+            start,
+            length,
+            next,
+        } = step
+        else {
+            let PieceStep::Unreadable(fault) = step else {
+                return CountAnswer::Count(sum);
+            };
+            return CountAnswer::Refused(Refusal::PartUnreadable(fault));
+        };
+        at = next;
+        if kind == Kind::SPECIAL {
+            sum += ids_of(entries, added, &text[start..start + length]);
         }
     }
 }

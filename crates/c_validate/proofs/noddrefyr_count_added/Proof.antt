@@ -1,10 +1,10 @@
 -- `noddrefyr_count_added` hands on what `template_validate::count_added` answers. Assumes nothing.
-use mathlib.Core.Path.{refl}
+use mathlib.Core.Path.{refl, ap, sym, _∙_}
 use mathlib.Core.List.{[], _∷_}
 use denote.Ref.{now}
 use borrow.Author.Needs.{needs}
 use Rattle.c_crossing.proofs.Crossing.{crosses}
-use Rattle.c_validate.specs.Answers.{addedCrossed}
+use Rattle.c_validate.specs.Answers.{addedCrossed, addedFault}
 use Rattle.c_validate.proofs.noddrefyr_count_added.Statement.{statement}
 use Rattle.c_validate.proofs.noddrefyr_count_added.Tie as tie
 
@@ -22,23 +22,27 @@ count-added-requires c κs = search needs
 enum-known-found : tie.Need-enum-known-found
 enum-known-found c = search needs
 
-number-requires : tie.Need-number-requires
-number-requires c κs = search needs
+fault-told-requires : tie.Need-fault-told-requires
+fault-told-requires c κs = search needs
 
 enum-known-found-2 : tie.Need-enum-known-found-2
 enum-known-found-2 c = search needs
 
 returns : tie.Need-returns
 returns c =
-    let s = c .before .before .before .before in
+    let s = c .before .before .before .before .before in
     let a = start s .args in
-    rw (← s .before .which-of .ensures) (crosses (addedCrossed (now (a .count) ∷ [])) (s .count-added .ensures) (c .before .before .found .given .1) (c .number .ensures) refl)
+    let k = c .before .before .before .found .given .1 in
+    rw (← s .before .which-of .ensures)
+    (crosses (addedCrossed (now (a .count) ∷ [])) (s .count-added .ensures) k (c .fault-told .ensures .0) refl, c .fault-told .ensures .1 ∙ ap (addedFault (now (a .fault))) (sym k ∙ s .count-added .ensures))
 
 returns-2 : tie.Need-returns-2
 returns-2 c =
     let s = c .before .before .before in
     let a = start s .args in
-    rw (← s .before .which-of .ensures) (crosses (addedCrossed (now (a .count) ∷ [])) (s .count-added .ensures) (c .before .found2 .given .1) refl refl)
+    let k = c .before .found2 .given .1 in
+    rw (← s .before .which-of .ensures)
+    (crosses (addedCrossed (now (a .count) ∷ [])) (s .count-added .ensures) k refl refl, ap (addedFault (now (a .fault))) (sym k ∙ s .count-added .ensures))
 
 pub noddrefyr-count-added-spec : {M : Type 1} → statement M
-noddrefyr-count-added-spec = tie.close (tie.spec which-of-requires count-added-requires enum-known-found number-requires enum-known-found-2 returns returns-2)
+noddrefyr-count-added-spec = tie.close (tie.spec which-of-requires count-added-requires enum-known-found fault-told-requires enum-known-found-2 returns returns-2)

@@ -121,19 +121,19 @@ plan-requires c κs =
 enum-known-answer : tie.Need-enum-known-answer
 enum-known-answer c = search needs
 
-enum-told-3 : tie.Need-enum-told-3
-enum-told-3 c = search needs
+enum-known-answer-2 : tie.Need-enum-known-answer-2
+enum-known-answer-2 c = search needs
 
 same-length : tie.Need-same-length
 same-length c = search needs
 
 returns-4 : tie.Need-returns-4
 returns-4 c =
-    let p = c .before .before .before .before in
+    let p = c .before .before .before .before .before in
     let k = after-check-template p in
     let e = Spotted (k .before) .before in
     let t = those (Tested e) in
-    has-steps (t .0) (t .1) _ _ _ _ _ _ (says k ∙ p .before .before .enum-told2 .given .1) (the-table e .1) (p .plan .ensures) (c .enum-told3 .given .1)
+    has-steps (t .0) (t .1) _ _ _ _ _ _ (says k ∙ p .before .before .enum-told2 .given .1) (the-table e .1) (p .plan .ensures) (c .before .answer .given .1)
 
 same-length-2 : tie.Need-same-length-2
 same-length-2 c = search needs
@@ -144,7 +144,7 @@ returns-5 c =
     let k = after-check-template p in
     let e = Spotted (k .before) .before in
     let t = those (Tested e) in
-    decide-take _ _ _ (t .1) (t .2) _ (the-table e .1) (reads (k .before)) (says k ∙ p .before .before .enum-told2 .given .1) _ _ _ (the-table e .1) (p .plan .ensures) (placed (k .before)) (c .before .answer .given .1)
+    decide-take _ _ _ (t .1) (t .2) _ (the-table e .1) (reads (k .before)) (says k ∙ p .before .before .enum-told2 .given .1) _ _ _ (the-table e .1) (p .plan .ensures) (placed (k .before)) (c .before .answer2 .given .1)
 
 pub decide-spec : {M : Type 1} → statement M
 decide-spec =
@@ -166,7 +166,7 @@ decide-spec =
     enum-told-2
     plan-requires
     enum-known-answer
-    enum-told-3
+    enum-known-answer-2
     same-length
     returns-4
     same-length-2

@@ -8,7 +8,7 @@ use borrow.Author.Needs.{needs}
 use borrow.Author.Tests.{not-true, not-false}
 use Rattle.template_text.specs.Comes.{comesAt}
 use Rattle.template_text.specs.declared.PieceStep.the-variants.{Read}
-use Rattle.template_text.proofs.Coming.{come-within}
+use Rattle.template_text.proofs.Coming.{come-within, no-more}
 use Rattle.process_plan.proofs.Next.{tells, tells-left, tells-unknown, tells-step}
 use Rattle.process_plan.proofs.next_step.Statement.{statement}
 use Rattle.process_plan.proofs.next_step.Tie as tie
@@ -32,17 +32,22 @@ adds c k = ⊎-elim (λ w. not-false _ (w .1 .left)) (λ w. absurd (w .left k)) 
 piece-from-requires : tie.Need-piece-from-requires
 piece-from-requires c κs = search needs
 
-enum-told : tie.Need-enum-told
-enum-told c = search needs
-
-enum-told-2 : tie.Need-enum-told-2
-enum-told-2 c = search needs
-
 enum-known-coming : tie.Need-enum-known-coming
 enum-known-coming c = search needs
 
+enum-known-coming-2 : tie.Need-enum-known-coming-2
+enum-known-coming-2 c = search needs
+
 returns : tie.Need-returns
-returns c = tells-left _ _ _ _ _ (comes (c .before .before .before)) (c .before .if1 .taken) (not-true _ (c .if2 .taken))
+returns c =
+    let read = c .before .before in
+    tells _ _ _ _ _ (sym (read .piece-from .ensures) ∙ no-more _ (c .before .match .keys2) (c .match2 .keys2))
+
+returns-2 : tie.Need-returns-2
+returns-2 c = tells _ _ _ _ _ (sym (c .before .before .before .before .piece-from .ensures) ∙ c .before .coming2 .given .1)
+
+returns-3 : tie.Need-returns-3
+returns-3 c = tells-left _ _ _ _ _ (comes (c .before .before .before)) (c .before .if1 .taken) (not-true _ (c .if2 .taken))
 
 add-id : tie.Need-add-id
 add-id c = omega (arith, come-within _ _ (comes (At c)))
@@ -62,19 +67,13 @@ step-of-requires c κs = search needs
 enum-known-step : tie.Need-enum-known-step
 enum-known-step c = search needs
 
-enum-told-3 : tie.Need-enum-told-3
-enum-told-3 c = search needs
-
-returns-2 : tie.Need-returns-2
-returns-2 c =
-    let j = c .before .before .before .before in
-    tells-unknown _ _ _ _ _ (comes (At j)) (adds j) (c .before .before .step-of .ensures) (c .enum-told3 .given .1)
-
-returns-3 : tie.Need-returns-3
-returns-3 c = tells _ _ _ _ _ (sym (c .before .before .piece-from .ensures) ∙ c .enum-told .given .1)
+enum-told : tie.Need-enum-told
+enum-told c = search needs
 
 returns-4 : tie.Need-returns-4
-returns-4 c = tells _ _ _ _ _ (sym (c .before .before .piece-from .ensures) ∙ c .enum-told2 .given .1)
+returns-4 c =
+    let j = c .before .before .before .before in
+    tells-unknown _ _ _ _ _ (comes (At j)) (adds j) (c .before .before .step-of .ensures) (c .enum-told .given .1)
 
 returns-5 : tie.Need-returns-5
 returns-5 c =
@@ -86,18 +85,17 @@ next-step-spec =
     tie.close
     (tie.spec
     piece-from-requires
-    enum-told
-    enum-told-2
     enum-known-coming
+    enum-known-coming-2
     returns
+    returns-2
+    returns-3
     add-id
     sub-id
     part-id-start
     part-id-end
     step-of-requires
     enum-known-step
-    enum-told-3
-    returns-2
-    returns-3
+    enum-told
     returns-4
     returns-5)

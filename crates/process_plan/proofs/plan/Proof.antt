@@ -49,23 +49,23 @@ same-length c = kept (c .before .before .before .loop .inv)
 returns : tie.Need-returns Inv-loop μ-loop
 returns c = let n = c .before .before in plan-end (n .before .loop .inv) (Began (n .before) .pre) (next-says _ _ _ (n .before .loop .inv .walked) (sym (c .enum-told .given .1) ∙ n .next-step .ensures))
 
-enum-told-2 : tie.Need-enum-told-2 Inv-loop μ-loop
-enum-told-2 c = search needs
+enum-known-fault : tie.Need-enum-known-fault Inv-loop μ-loop
+enum-known-fault c = search needs
 
 same-length-2 : tie.Need-same-length-2 Inv-loop μ-loop
-same-length-2 c = kept (c .before .before .before .loop .inv)
+same-length-2 c = kept (c .before .before .before .before .loop .inv)
 
 returns-2 : tie.Need-returns-2 Inv-loop μ-loop
-returns-2 c = let n = c .before .before in plan-bad (n .before .loop .inv) (next-says _ _ _ (n .before .loop .inv .walked) (sym (c .enum-told2 .given .1) ∙ n .next-step .ensures))
+returns-2 c = let n = c .before .before .before in plan-bad (n .before .loop .inv) (next-says _ _ _ (n .before .loop .inv .walked) (sym (c .before .fault .given .1) ∙ n .next-step .ensures))
 
-enum-told-3 : tie.Need-enum-told-3 Inv-loop μ-loop
-enum-told-3 c = search needs
+enum-told-2 : tie.Need-enum-told-2 Inv-loop μ-loop
+enum-told-2 c = search needs
 
 same-length-3 : tie.Need-same-length-3 Inv-loop μ-loop
 same-length-3 c = kept (c .before .before .before .loop .inv)
 
 returns-3 : tie.Need-returns-3 Inv-loop μ-loop
-returns-3 c = let n = c .before .before in plan-unknown (n .before .loop .inv) (next-says _ _ _ (n .before .loop .inv .walked) (sym (c .enum-told3 .given .1) ∙ n .next-step .ensures))
+returns-3 c = let n = c .before .before in plan-unknown (n .before .loop .inv) (next-says _ _ _ (n .before .loop .inv .walked) (sym (c .enum-told2 .given .1) ∙ n .next-step .ensures))
 
 enum-known-next : tie.Need-enum-known-next Inv-loop μ-loop
 enum-known-next c = search needs
@@ -102,10 +102,10 @@ plan-spec =
     enum-told
     same-length
     returns
-    enum-told-2
+    enum-known-fault
     same-length-2
     returns-2
-    enum-told-3
+    enum-told-2
     same-length-3
     returns-3
     enum-known-next

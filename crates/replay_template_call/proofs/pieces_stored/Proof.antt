@@ -30,6 +30,30 @@ wide-requires c κs = search needs
 returns-3 : tie.Need-returns-3
 returns-3 c = not-differs
 
+number-at-requires-3 : tie.Need-number-at-requires-3
+number-at-requires-3 c κs = search needs
+
+wide-requires-2 : tie.Need-wide-requires-2
+wide-requires-2 c κs = search needs
+
+array-read-if4 : tie.Need-array-read-if4
+array-read-if4 c = search needs
+
+returns-4 : tie.Need-returns-4
+returns-4 c = not-differs
+
+number-at-requires-4 : tie.Need-number-at-requires-4
+number-at-requires-4 c κs = search needs
+
+wide-requires-3 : tie.Need-wide-requires-3
+wide-requires-3 c κs = search needs
+
+array-read-if5 : tie.Need-array-read-if5
+array-read-if5 c = search needs
+
+returns-5 : tie.Need-returns-5
+returns-5 c = not-differs
+
 mul-equal : tie.Need-mul-equal
 mul-equal c = search needs
 
@@ -48,13 +72,17 @@ equal-requires c κs = search needs
 compared-requires : tie.Need-compared-requires
 compared-requires c κs = search needs
 
-returns-4 : tie.Need-returns-4
-returns-4 c e =
+returns-6 : tie.Need-returns-6
+returns-6 c e =
     let q = c .before in
-    let w = q .before .before .before .before in
-    let n = w .before .before .before in
-    let l = n .before .before in
-    found-pieces _ _ _ (l .last-list .ensures) (sym (n .number-at .ensures) ∙ w .before .before .if2 .left) (sym (w .before .number-at2 .ensures) ∙ sym (w .wide .ensures) ∙ q .before .before .before .if3 .left)
+    let place = q .before .before .before .before in
+    let part = place .before .before .before in
+    let count = part .before .before .before in
+    let refused = count .before .before .before in
+    let list = refused .before .before in
+    found-pieces _ _ _ _ (list .last-list .ensures) (sym (refused .number-at .ensures) ∙ count .before .before .if2 .left) (sym (count .before .number-at2 .ensures) ∙ sym (count .wide .ensures) ∙ part .before .before .if3 .left)
+    (sym (part .before .number-at3 .ensures) ∙ sym (part .wide2 .ensures) ∙ place .before .before .if4 .left)
+    (sym (place .before .number-at4 .ensures) ∙ sym (place .wide3 .ensures) ∙ q .before .before .before .if5 .left)
     (decided (q .equal .result) (q .equal .ensures) (same-true _ (sym (c .compared .ensures) ∙ e)))
 
 pub pieces-stored-spec : {M : Type 1} → statement M
@@ -69,10 +97,18 @@ pieces-stored-spec =
     number-at-requires-2
     wide-requires
     returns-3
+    number-at-requires-3
+    wide-requires-2
+    array-read-if4
+    returns-4
+    number-at-requires-4
+    wide-requires-3
+    array-read-if5
+    returns-5
     mul-equal
     sub-equal
     part-equal-start
     part-equal-end
     equal-requires
     compared-requires
-    returns-4)
+    returns-6)

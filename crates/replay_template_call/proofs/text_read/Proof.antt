@@ -34,9 +34,9 @@ same-length-2 c = search needs
 returns-2 : tie.Need-returns-2
 returns-2 c e =
     let k = c .before .before in
-    let g = k .before .before .before .before in
+    let g = k .before .before .before .before .before in
     let t = g .before .before .before .before in
-    stored-reading _ _ (t .text-of .ensures .put (not-false _ (g .if1 .left))) (k .noddrefyr-read-template .ensures) (c .pieces-stored .ensures e)
+    stored-reading _ _ (t .text-of .ensures .put (not-false _ (g .if1 .left))) (k .noddrefyr-read-template .ensures .0) (k .noddrefyr-read-template .ensures .1) (c .pieces-stored .ensures e)
 
 pub text-read-spec : {M : Type 1} → statement M
 text-read-spec =

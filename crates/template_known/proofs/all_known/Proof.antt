@@ -7,6 +7,7 @@ use lib.ListN.{length}
 use denote.Ref.{now}
 use Rattle.template_text.specs.Comes.{comesAt}
 use Rattle.template_text.specs.declared.PieceStep.the-variants.{Read}
+use Rattle.template_text.proofs.Coming.{no-more}
 use Rattle.template_entries.specs.Table.{entryWidth}
 use Rattle.template_known.proofs.Knowing.{Seeking, seek-start, seek-on, seek-end, Knowing, know-start, know-end, know-bad, know-passing, know-other, know-found, know-missing}
 use borrow.Author.Needs.{needs}
@@ -60,10 +61,14 @@ parts-holds : tie.Need-parts-holds Inv-loop μ-loop Inv-parts μ-parts
 parts-holds c = know-start _ _ _
 
 returns : tie.Need-returns Inv-loop μ-loop Inv-parts μ-parts
-returns c = know-end (c .before .before .before .parts .inv) (sym (c .before .before .piece-from .ensures) ∙ c .enum-told .given .1)
+returns c =
+    let read = c .before .before in
+    know-end (read .before .parts .inv) (sym (read .piece-from .ensures) ∙ no-more _ (c .before .match .keys2) (c .match2 .keys2))
 
 returns-2 : tie.Need-returns-2 Inv-loop μ-loop Inv-parts μ-parts
-returns-2 c = know-bad (c .before .before .before .parts .inv) (sym (c .before .before .piece-from .ensures) ∙ c .enum-told2 .given .1)
+returns-2 c =
+    let read = c .before .before .before .before in
+    know-bad (read .before .parts .inv) (sym (read .piece-from .ensures) ∙ c .before .step2 .given .1)
 
 parts-less : tie.Need-parts-less Inv-loop μ-loop Inv-parts μ-parts
 parts-less c = less (c .before .before)
@@ -117,10 +122,9 @@ all-known-spec =
     parts-holds
     (λ c κs. search needs)
     (λ c. search needs)
+    (λ c. search needs)
     returns
-    (λ c. search needs)
     returns-2
-    (λ c. search needs)
     parts-less
     parts-again
     add-id

@@ -1,6 +1,7 @@
 -- `named` meets its contract. Assumes nothing.
-use Rattle.template_pieces.specs.Piece.{pieceAnswer}
+use Rattle.template_pieces.specs.Piece.{Piece, byName, pieceAnswer}
 use mathlib.Core.Path.{ap, sym, _∙_}
+use mathlib.Core.Option.{Option}
 use Rattle.template_pieces.proofs.Piece.{names-empty, names-special, names-sequence}
 use borrow.Author.Needs.{needs}
 use Rattle.template_pieces.proofs.named.Statement.{statement}
@@ -24,7 +25,7 @@ sequence-of-requires c κs = search needs
 returns : tie.Need-returns
 returns c =
     c .sequence-of .ensures
-    ∙ ap pieceAnswer (sym (names-sequence _ _ (c .before .before .before .before .if1 .taken) (c .before .before .if2 .taken)))
+    ∙ ap (λ (p : Option Piece). pieceAnswer (byName p)) (sym (names-sequence _ _ (c .before .before .before .before .if1 .taken) (c .before .before .if2 .taken)))
 
 returns-2 : tie.Need-returns-2
 unfolding pieceAnswer

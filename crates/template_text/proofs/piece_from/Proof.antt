@@ -1,5 +1,6 @@
 -- `piece_from` meets its contract. Assumes nothing.
 use mathlib.Core.Path.{_≡_, ap, sym, _∙_}
+use native.Mathlib.Omega.{arith}
 use denote.Ref.{now}
 use borrow.Author.Needs.{needs}
 use Rattle.template_parts.specs.Parts.{partStepAt}
@@ -35,19 +36,25 @@ returns c = at-end _ _ (sym (ap (λ (s : PartStep). s .answer) (c .before .befor
 read-piece-requires : tie.Need-read-piece-requires
 read-piece-requires c κs = part-found _ _ (found (c .before)) .inside
 
-enum-known-kind : tie.Need-enum-known-kind
-enum-known-kind c = search needs
+enum-known-piece : tie.Need-enum-known-piece
+enum-known-piece c = search needs
 
-enum-told-2 : tie.Need-enum-told-2
-enum-told-2 c = search needs
+fault-at-requires : tie.Need-fault-at-requires
+fault-at-requires c κs = omega (arith, part-found _ _ (found (c .before .before .before .before .before)) .inside)
+
+enum-known-piece-2 : tie.Need-enum-known-piece-2
+enum-known-piece-2 c = search needs
 
 returns-2 : tie.Need-returns-2
-returns-2 c = at-bad _ _ (found (c .before .before .before .before)) (sym (c .before .before .read-piece .ensures) ∙ c .enum-told2 .given .1)
+returns-2 c =
+    let read = c .before .before .before .before in
+    at-bad _ _ (found (read .before .before)) (sym (read .read-piece .ensures) ∙ c .before .before .piece .given .1) (c .fault-at .ensures)
 
 returns-3 : tie.Need-returns-3
 returns-3 c =
-    let part = c .before .before .before .before .before in
-    at-piece _ _ (found part) (sym (c .before .before .before .read-piece .ensures) ∙ c .before .kind .given .1) (ap (λ (s : PartStep). s .next) (part .before .before .part-from .ensures))
+    let read = c .before .before .before in
+    let part = read .before .before in
+    at-piece _ _ (found part) (sym (read .read-piece .ensures) ∙ c .before .piece2 .given .1) (ap (λ (s : PartStep). s .next) (part .before .before .part-from .ensures))
 
 pub piece-from-spec : {M : Type 1} → statement M
 piece-from-spec =
@@ -58,7 +65,8 @@ piece-from-spec =
     enum-told
     returns
     read-piece-requires
-    enum-known-kind
-    enum-told-2
+    enum-known-piece
+    fault-at-requires
+    enum-known-piece-2
     returns-2
     returns-3)

@@ -9,6 +9,7 @@ use borrow.Author.Needs.{needs}
 use Rattle.template_text.specs.Comes.{comesAt}
 use Rattle.template_text.specs.Template.{mostBytes, mostParts}
 use Rattle.template_text.specs.declared.PieceStep.the-variants.{Read}
+use Rattle.template_text.proofs.Coming.{no-more}
 use Rattle.template_text.proofs.Gathering.{Gathering, kept, gather-start, gather-end, gather-bad, gather-passing, gather-few, gather-small, gather-room, gather-on}
 use Rattle.template_text.proofs.read_pieces.Statement.{statement}
 use Rattle.template_text.proofs.read_pieces.Tie as tie
@@ -45,32 +46,33 @@ loop-holds c = gather-start _ _
 piece-from-requires : tie.Need-piece-from-requires Inv-loop μ-loop
 piece-from-requires c κs = search needs
 
-enum-told : tie.Need-enum-told Inv-loop μ-loop
-enum-told c = search needs
+enum-known-step : tie.Need-enum-known-step Inv-loop μ-loop
+enum-known-step c = search needs
+
+enum-known-step-2 : tie.Need-enum-known-step-2 Inv-loop μ-loop
+enum-known-step-2 c = search needs
 
 same-length : tie.Need-same-length Inv-loop μ-loop
 same-length c = kept (c .before .before .before .loop .inv)
 
 returns : tie.Need-returns Inv-loop μ-loop
-returns c = gather-end (c .before .before .before .loop .inv) (sym (c .before .before .piece-from .ensures) ∙ c .enum-told .given .1)
-
-enum-told-2 : tie.Need-enum-told-2 Inv-loop μ-loop
-enum-told-2 c = search needs
+returns c =
+    let read = c .before .before in
+    gather-end (read .before .loop .inv) (sym (read .piece-from .ensures) ∙ no-more _ (c .before .match .keys2) (c .match2 .keys2))
 
 same-length-2 : tie.Need-same-length-2 Inv-loop μ-loop
-same-length-2 c = kept (c .before .before .before .loop .inv)
+same-length-2 c = kept (c .before .before .before .before .before .loop .inv)
 
 returns-2 : tie.Need-returns-2 Inv-loop μ-loop
-returns-2 c = gather-bad (c .before .before .before .loop .inv) (sym (c .before .before .piece-from .ensures) ∙ c .enum-told2 .given .1)
-
-enum-known-step : tie.Need-enum-known-step Inv-loop μ-loop
-enum-known-step c = search needs
-
-cast-t14 : tie.Need-cast-t14 Inv-loop μ-loop
-cast-t14 c = omega (arith, small (c .before))
+returns-2 c =
+    let read = c .before .before .before .before in
+    gather-bad (read .before .loop .inv) (sym (read .piece-from .ensures) ∙ c .before .step2 .given .1)
 
 cast-t15 : tie.Need-cast-t15 Inv-loop μ-loop
 cast-t15 c = omega (arith, small (c .before))
+
+cast-t16 : tie.Need-cast-t16 Inv-loop μ-loop
+cast-t16 c = omega (arith, small (c .before))
 
 mul-place : tie.Need-mul-place Inv-loop μ-loop
 mul-place c = omega (arith, few (c .before))
@@ -104,15 +106,14 @@ read-pieces-spec =
     μ-loop
     loop-holds
     piece-from-requires
-    enum-told
+    enum-known-step
+    enum-known-step-2
     same-length
     returns
-    enum-told-2
     same-length-2
     returns-2
-    enum-known-step
-    cast-t14
     cast-t15
+    cast-t16
     mul-place
     slice-aggregate-copy
     copy-requires

@@ -29,17 +29,19 @@ slice-aggregate-read-pieces c = search needs
 read-pieces-requires : tie.Need-read-pieces-requires
 read-pieces-requires c κs = record { is-short = fits (c .before); room = refl }
 
-enum-told : tie.Need-enum-told
-enum-told c = search needs
-
-enum-told-2 : tie.Need-enum-told-2
-enum-told-2 c = search needs
+enum-known-answer : tie.Need-enum-known-answer
+enum-known-answer c = search needs
 
 refused-requires-2 : tie.Need-refused-requires-2
 refused-requires-2 c κs = search needs
 
 returns-2 : tie.Need-returns-2
-returns-2 c = c .refused2 .ensures ∙ ap templateOf (sym (gathered-none (fits (c .before .before .before .before .before .before)) (c .before .before .before .before .read-pieces .ensures) (c .before .enum-told2 .given .1)))
+returns-2 c =
+    let read = c .before .before .before .before .before in
+    c .refused2 .ensures ∙ ap templateOf (sym (gathered-none (fits (read .before .before)) (read .read-pieces .ensures) (c .before .before .answer .given .1)))
+
+enum-told : tie.Need-enum-told
+enum-told c = search needs
 
 returns-3 : tie.Need-returns-3
 returns-3 c = gathered-some (fits (c .before .before .before .before .before)) (c .before .before .before .read-pieces .ensures) (c .enum-told .given .1)
@@ -53,8 +55,8 @@ read-template-spec =
     returns
     slice-aggregate-read-pieces
     read-pieces-requires
-    enum-told
-    enum-told-2
+    enum-known-answer
     refused-requires-2
     returns-2
+    enum-told
     returns-3)

@@ -54,51 +54,14 @@ in-pair : (c : tie.After-in-pair2)
     sequencesAnswer (readTemplate (textUsed (start .args .pair-set) (now (start .args .pair)) Pair)) ≡ Named (c .in-pair2 .given .0 .0) (c .in-pair2 .given .0 .1 .0)
 in-pair c = ap (λ (t : List ℕ). sequencesAnswer (readTemplate t)) (sym (c .before .before .before .before .before .before .text-used2 .ensures)) ∙ sym (c .before .before .sequences-in2 .ensures) ∙ c .in-pair2 .given .1
 
-check-table-requires : tie.Need-check-table-requires
-check-table-requires c κs = search needs
-
-enum-known-table : tie.Need-enum-known-table
-enum-known-table c = search needs
-
 returns : tie.Need-returns
 returns c = decide-table _ _ _ (sym (c .before .before .before .check-table .ensures) ∙ c .before .table .given .1)
 
-enum-told : tie.Need-enum-told
-enum-told c = search needs
-
-slice-aggregate-text-used : tie.Need-slice-aggregate-text-used
-slice-aggregate-text-used c = search needs
-
-text-used-requires : tie.Need-text-used-requires
-text-used-requires c κs = search needs
-
-slice-aggregate-text-used-2 : tie.Need-slice-aggregate-text-used-2
-slice-aggregate-text-used-2 c = search needs
-
-text-used-requires-2 : tie.Need-text-used-requires-2
-text-used-requires-2 c κs = search needs
-
-sequences-in-requires : tie.Need-sequences-in-requires
-sequences-in-requires c κs = search needs
-
-enum-known-in-single : tie.Need-enum-known-in-single
-enum-known-in-single c = search needs
-
 returns-2 : tie.Need-returns-2
 returns-2 c =
-    decide-single _ _ _ (is-sound (c .before .before .before .before .before .before .before .before)) (ap (λ (t : List ℕ). sequencesAnswer (readTemplate t)) (sym (c .before .before .before .before .before .before .text-used .ensures)) ∙ sym (c .before .before .before .sequences-in .ensures) ∙ c .before .in-single .given .1)
-
-enum-told-2 : tie.Need-enum-told-2
-enum-told-2 c = search needs
-
-sequences-in-requires-2 : tie.Need-sequences-in-requires-2
-sequences-in-requires-2 c κs = search needs
-
-enum-known-in-pair : tie.Need-enum-known-in-pair
-enum-known-in-pair c = search needs
-
-enum-known-in-pair-2 : tie.Need-enum-known-in-pair-2
-enum-known-in-pair-2 c = search needs
+    let read = c .before .before .before .before in
+    c .refused-in .ensures
+    ∙ decide-single _ _ _ (is-sound (read .before .before .before .before .before)) (ap (λ (t : List ℕ). sequencesAnswer (readTemplate t)) (sym (read .before .before .before .text-used .ensures)) ∙ sym (read .sequences-in .ensures) ∙ c .before .before .in-single .given .1)
 
 returns-3 : tie.Need-returns-3
 returns-3 c =
@@ -115,37 +78,44 @@ both-known-requires c κs = sound-inside _ _ _ (is-sound (table-of (single-of (c
 
 returns-5 : tie.Need-returns-5
 returns-5 c =
-    let single = c .before .before .before .before in
-    decide-pair _ _ _ (is-sound (table-of single)) (in-single single) (ap (λ (t : List ℕ). sequencesAnswer (readTemplate t)) (sym (single .before .before .before .text-used2 .ensures)) ∙ sym (c .before .before .before .sequences-in2 .ensures) ∙ c .before .in-pair .given .1)
+    let read = c .before .before .before .before in
+    let single = read .before in
+    c .refused-in2 .ensures
+    ∙ decide-pair _ _ _ (is-sound (table-of single)) (in-single single) (ap (λ (t : List ℕ). sequencesAnswer (readTemplate t)) (sym (single .before .before .before .text-used2 .ensures)) ∙ sym (read .sequences-in2 .ensures) ∙ c .before .before .in-pair .given .1)
 
 returns-6 : tie.Need-returns-6
 returns-6 c =
-    let pair = c .before .before .before .before in
+    let both = c .before in
+    let pair = both .before .before .before .before in
     let single = single-of pair in
-    decide-known _ _ _ _ _ (is-sound (table-of single)) (in-single single) (in-pair pair ∙ ap₂ Named (not-false _ (c .before .before .if1 .left)) (not-false _ (c .before .if2 .left)))
-    (known-used _ _ (after-text-used single .text-used .ensures) (single .before .before .before .text-used2 .ensures) (c .both-known .ensures))
+    c .checked .ensures
+    ∙ decide-known _ _ _ _ _ (is-sound (table-of single)) (in-single single) (in-pair pair ∙ ap₂ Named (not-false _ (both .before .before .if1 .left)) (not-false _ (both .before .if2 .left)))
+    (known-used _ _ (after-text-used single .text-used .ensures) (single .before .before .before .text-used2 .ensures) (both .both-known .ensures))
 
 pub validate-spec : {M : Type 1} → statement M
 validate-spec =
     tie.close
     (tie.spec
-    check-table-requires
-    enum-known-table
+    (λ c κs. search needs)
+    (λ c. search needs)
     returns
-    enum-told
-    slice-aggregate-text-used
-    text-used-requires
-    slice-aggregate-text-used-2
-    text-used-requires-2
-    sequences-in-requires
-    enum-known-in-single
+    (λ c. search needs)
+    (λ c. search needs)
+    (λ c κs. search needs)
+    (λ c. search needs)
+    (λ c κs. search needs)
+    (λ c κs. search needs)
+    (λ c. search needs)
+    (λ c κs. search needs)
     returns-2
-    enum-told-2
-    sequences-in-requires-2
-    enum-known-in-pair
-    enum-known-in-pair-2
+    (λ c. search needs)
+    (λ c κs. search needs)
+    (λ c. search needs)
+    (λ c κs. search needs)
+    (λ c. search needs)
     returns-3
     returns-4
     both-known-requires
+    (λ c κs. search needs)
     returns-5
     returns-6)

@@ -9,6 +9,7 @@ use borrow.Author.Tests.{not-true, not-false}
 use Rattle.template_text.specs.Comes.{comesAt}
 use Rattle.template_text.specs.Template.{short}
 use Rattle.template_text.specs.declared.PieceStep.the-variants.{Read}
+use Rattle.template_text.proofs.Coming.{no-more}
 use Rattle.template_walk.proofs.Counting.{Counting, count-start, count-long, count-end, count-bad, count-passing, count-few, count-other, count-special}
 use borrow.Author.Needs.{needs}
 use Rattle.template_walk.proofs.count_pieces.Statement.{statement}
@@ -55,24 +56,21 @@ loop-holds c = count-start _ _ _
 piece-from-requires : tie.Need-piece-from-requires Inv-loop μ-loop
 piece-from-requires c κs = search needs
 
-enum-told : tie.Need-enum-told Inv-loop μ-loop
-enum-told c = search needs
+enum-known-step : tie.Need-enum-known-step Inv-loop μ-loop
+enum-known-step c = search needs
+
+enum-known-step-2 : tie.Need-enum-known-step-2 Inv-loop μ-loop
+enum-known-step-2 c = search needs
 
 returns-2 : tie.Need-returns-2 Inv-loop μ-loop
 returns-2 c =
-    let at-loop = c .before .before .before in
-    count-end (at-loop .loop .inv) (fits at-loop) (sym (c .before .before .piece-from .ensures) ∙ c .enum-told .given .1)
-
-enum-told-2 : tie.Need-enum-told-2 Inv-loop μ-loop
-enum-told-2 c = search needs
+    let read = c .before .before in
+    count-end (read .before .loop .inv) (fits (read .before)) (sym (read .piece-from .ensures) ∙ no-more _ (c .before .match .keys2) (c .match2 .keys2))
 
 returns-3 : tie.Need-returns-3 Inv-loop μ-loop
 returns-3 c =
-    let at-loop = c .before .before .before in
-    count-bad (at-loop .loop .inv) (fits at-loop) (sym (c .before .before .piece-from .ensures) ∙ c .enum-told2 .given .1)
-
-enum-known-step : tie.Need-enum-known-step Inv-loop μ-loop
-enum-known-step c = search needs
+    let read = c .before .before .before .before in
+    count-bad (read .before .loop .inv) (fits (read .before)) (sym (read .piece-from .ensures) ∙ c .before .step2 .given .1)
 
 add-ids-of : tie.Need-add-ids-of Inv-loop μ-loop
 add-ids-of c = omega (arith, within (c .before .before))
@@ -124,11 +122,10 @@ count-pieces-spec =
     returns
     loop-holds
     piece-from-requires
-    enum-told
-    returns-2
-    enum-told-2
-    returns-3
     enum-known-step
+    enum-known-step-2
+    returns-2
+    returns-3
     add-ids-of
     sub-ids-of
     part-ids-of-start

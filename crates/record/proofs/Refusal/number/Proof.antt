@@ -1,5 +1,5 @@
 -- `number` meets its contract, refusal by refusal. Assumes nothing.
-use mathlib.Core.Path.{ap, sym}
+use mathlib.Core.Path.{ap, sym, _∙_}
 use Rattle.record.specs.Refusals.{numberOf}
 use borrow.Author.Needs.{needs}
 use Rattle.record.proofs.Refusal.number.Statement.{statement}
@@ -56,8 +56,11 @@ enum-told-16 c = search needs
 enum-told-17 : tie.Need-enum-told-17
 enum-told-17 c = search needs
 
-enum-told-18 : tie.Need-enum-told-18
-enum-told-18 c = search needs
+enum-known-self : tie.Need-enum-known-self
+enum-known-self c = search needs
+
+number-requires : tie.Need-number-requires
+number-requires c κs = search needs
 
 returns : tie.Need-returns
 returns c = ap numberOf (sym (c .enum-told .given .1))
@@ -111,7 +114,7 @@ returns-17 : tie.Need-returns-17
 returns-17 c = ap numberOf (sym (c .enum-told17 .given .1))
 
 returns-18 : tie.Need-returns-18
-returns-18 c = ap numberOf (sym (c .enum-told18 .given .1))
+returns-18 c = c .number .ensures ∙ ap numberOf (sym (c .before .before .self .given .1))
 
 pub number-spec : {M : Type 1} → statement M
 number-spec =
@@ -134,7 +137,8 @@ number-spec =
     enum-told-15
     enum-told-16
     enum-told-17
-    enum-told-18
+    enum-known-self
+    number-requires
     returns
     returns-2
     returns-3
