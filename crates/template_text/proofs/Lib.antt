@@ -4,3 +4,4 @@ pub mod Coming
 pub mod Answers
 pub mod Gathering
 pub mod Pieces
+pub mod Faults
