@@ -1,2 +1,3 @@
 pub mod Checking
+pub mod NotSix
 pub mod Deciding

@@ -1,3 +1,4 @@
 pub mod Piece
+mod Colons
 pub mod Lies
 mod Names

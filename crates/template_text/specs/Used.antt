@@ -15,7 +15,7 @@ unsetText Pair = 36 ∷ 65 ∷ 58 ∷ 48 ∷ 32 ∷ 36 ∷ 66 ∷ 58 ∷ 49 ∷ 
 abbrev pub textUsed : Bool → List ℕ → Which → List ℕ
 textUsed set text which = cond set text (unsetText which)
 
--- which of the two in a number: "0 single or 1 pair"
+-- which of the two, in a number
 abbrev pub whichNumber : Which → ℕ
 whichNumber Single = 0
 whichNumber Pair = 1

@@ -17,7 +17,8 @@ use Rattle.process_template.specs.Contracts.{usability}
 use Rattle.process_check.specs.Process.{whichFor, textFor}
 use Rattle.process_template.proofs.Inputs.{hasSecond, second-told}
 use Rattle.process_check.proofs.Checking.{sound-inside, sound-fits, read-short}
-use Rattle.process_check.proofs.Deciding.{table-not-six, usable, has-steps, text-told, decide-malformed, decide-faulty, decide-unusable, decide-take}
+use Rattle.process_check.proofs.NotSix.{table-not-six}
+use Rattle.process_check.proofs.Deciding.{usable, has-steps, text-told, decide-malformed, decide-faulty, decide-unusable, decide-take}
 use Rattle.process_check.proofs.decide.Statement.{statement}
 use Rattle.process_check.proofs.decide.Tie as tie
 

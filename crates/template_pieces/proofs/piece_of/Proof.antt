@@ -8,7 +8,7 @@ use lib.Seq.{length-take-le}
 use denote.Ref.{now}
 use Rattle.template_pieces.specs.Piece.{Piece, named, typed, byName, readPart, pieceAnswer}
 use Rattle.template_pieces.specs.declared.PieceAnswer.the-variants.{Unreadable}
-use Rattle.template_pieces.proofs.Piece.{no-colon, typed-part, untyped-part, number-none, number-some, typed-bad, typed-some}
+use Rattle.template_pieces.proofs.Colons.{no-colon, typed-part, untyped-part, number-none, number-some, typed-bad, typed-some}
 use borrow.Author.Needs.{needs}
 use Rattle.template_pieces.proofs.piece_of.Statement.{statement}
 use Rattle.template_pieces.proofs.piece_of.Tie as tie

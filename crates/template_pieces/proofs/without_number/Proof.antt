@@ -1,5 +1,5 @@
 -- `without_number` meets its contract. Assumes nothing.
-use Rattle.template_pieces.proofs.Piece.{why-number, why-colons}
+use Rattle.template_pieces.proofs.Colons.{why-number, why-colons}
 use borrow.Author.Needs.{needs}
 use Rattle.template_pieces.proofs.without_number.Statement.{statement}
 use Rattle.template_pieces.proofs.without_number.Tie as tie
