@@ -6,14 +6,13 @@ use mathlib.Core.List.{List, [], _∷_}
 use Prim.Native.Nat.{ℕ}
 use native.Mathlib.Omega.{arith}
 use lib.ListN.{length}
-use Rattle.record.specs.Tree.{Forest, listed, forest, tops}
+use Rattle.record.specs.Tree.{Forest, listed, forest}
 use Rattle.record.specs.WellFormed.{Stores}
 use Rattle.record.specs.Read.{Reading, malformed, holds, read}
 use Rattle.record.specs.Outcome.{Room, refused}
 use Rattle.record.specs.declared.Refusal.the-variants.{MalformedRecord, NoRoom, OffsetTooLarge}
-use Rattle.record.proofs.Read.{stored}
 use Rattle.record_check.specs.Answers.{shapeOf}
-use Rattle.record_check.specs.declared.Shape.the-variants.{Malformed, Encodings}
+use Rattle.record_check.specs.declared.Shape.the-variants.{Malformed}
 use Rattle.join_trees.specs.Join.{fold}
 use Rattle.join_trees.specs.Offsets.{foldFits}
 use Rattle.join_trees.specs.Outcomes.{foldOutcome}
@@ -32,13 +31,6 @@ outcome-malformed g (holds f) out out′ working working′ e = absurd (let z : 
 
 pub decided-malformed : (g : Bool) {xs rs : List ℕ} (out out′ working working′ : List ℕ) → shapeOf (read xs rs) ≡ Malformed → RefusedFold g xs rs out out′ working working′ MalformedRecord
 decided-malformed g out out′ working working′ e = record { told = outcome-malformed g _ out out′ working working′ e; not-six = refl }
-
-pub batch-there : (nodes rows : List ℕ) (n : ℕ) → shapeOf (read nodes rows) ≡ Encodings n → (f : Forest) × Stores nodes rows f × (n ≡ tops f)
-batch-there nodes rows n e = go (read nodes rows) refl e
-  where
-    go : (r : Reading) → read nodes rows ≡ r → shapeOf r ≡ Encodings n → (f : Forest) × Stores nodes rows f × (n ≡ tops f)
-    go malformed s e = absurd (let z : _≡_ {A = ℕ} 0 1 = cc in omega arith)
-    go (holds f) s e = (f, stored nodes rows f s, (cc))
 
 -- ---- What is decided, of an output and a working store that are as long as was told
 

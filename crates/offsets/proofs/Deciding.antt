@@ -28,7 +28,8 @@ use Rattle.offsets_trees.proofs.Converted.{converted-rows, converted-nodes, con
 use Rattle.offsets_verdict.specs.declared.Verdict.{Verdict}
 use Rattle.offsets_verdict.specs.declared.Verdict.the-variants.{Malformed, Accepted, NotText as NoText, PastEnd as Past, InsideCharacter as Inside}
 use Rattle.offsets_verdict.specs.Verdicts.{isText, ofFault, verdictOf}
-use Rattle.offsets_verdict.proofs.Deciding.{text-both, rows-stored}
+use Rattle.offsets_verdict.proofs.Deciding.{text-both}
+use Rattle.record.proofs.Walk.{rows-stored}
 use Rattle.offsets_batch.specs.Contracts.{convertedNumbers, Convertible}
 use Rattle.offsets.specs.Outcomes.{unlessFault, offsetsOutcome}
 

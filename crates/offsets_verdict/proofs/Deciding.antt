@@ -1,21 +1,16 @@
 -- The verdict on a batch is that on its rows as they are stored. Assumes nothing.
 use mathlib.Core.Path.{_≡_, refl, ap, sym, _∙_}
 use mathlib.Core.Bool.{Bool, true, false, _&&_, false≢true}
-use Prim.Native.Nat.{ℕ, _-_, _/_, _≤_, _<_}
-use native.Mathlib.Nat.{mul-div-cancel, zero-lt-suc}
+use Prim.Native.Nat.{ℕ, _-_, _≤_, _<_}
 use native.Mathlib.Omega.{arith}
-use mathlib.Core.List.{List, [], append-nil, flatMap}
+use mathlib.Core.List.{List}
 use lib.Dec.{leb}
 use lib.ListN.{length, take}
 use lib.Seq.{take-length}
 use borrow.Author.Tests.{leb-true, le-leb, lt-leb}
 use Rattle.record.specs.Tree.{Row, Forest}
-use Rattle.record.specs.Flat.{rowWidth, rowNumbers, rowAt}
-use Rattle.record.specs.Read.{Reading, malformed, holds, read, several}
-use Rattle.record.specs.Walk.{allRows}
-use Rattle.record.proofs.Flat.{length-numbers, several-back, row-stored}
-use Rattle.record.proofs.Read.{stored}
-use Rattle.record.proofs.Walk.{flat-rows}
+use Rattle.record.specs.Read.{Reading, malformed, holds, read}
+use Rattle.record.proofs.Walk.{rows-stored}
 use Rattle.chars_text.specs.Characters.{characters, wellFormed, starts}
 use Rattle.chars_text.proofs.Texts.{characters-starts}
 use Rattle.chars_places.specs.Lengths.{textLargest}
@@ -47,20 +42,6 @@ pub text-counted : (text : List ℕ) → isText text ≡ true → (total : ℕ) 
 text-counted text e total is =
     let whole : length text - 0 ≡ length text = omega arith in
     record { well = text-both text e .1; all = is ∙ ap (λ (n : ℕ). starts (take n text)) whole ∙ ap starts (take-length text) ∙ sym (characters-starts text (text-both text e .1)) }
-
--- ---- The rows
-
--- the numbers of a batch are its rows
-pub rows-stored : (nodes rows : List ℕ) (f : Forest) → read nodes rows ≡ holds f → several rowAt rowWidth (length rows / rowWidth) rows ≡ allRows f
-rows-stored nodes rows f e =
-    let numbers : rows ≡ flatMap rowNumbers (allRows f) = sym (stored nodes rows f e .rows-are) ∙ flat-rows f in
-    let count : length rows / rowWidth ≡ length (allRows f)
-    = ap (λ (l : List ℕ). length l / rowWidth) numbers
-    ∙ ap (λ (n : ℕ). n / rowWidth) (length-numbers row-stored (allRows f))
-    ∙ mul-div-cancel (length (allRows f)) (zero-lt-suc 10) in
-    ap (λ (n : ℕ). several rowAt rowWidth n rows) count
-    ∙ ap (several rowAt rowWidth (length (allRows f))) (numbers ∙ sym (append-nil (flatMap rowNumbers (allRows f))))
-    ∙ several-back row-stored (allRows f) []
 
 -- ---- The batch
 

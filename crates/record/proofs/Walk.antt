@@ -1,16 +1,19 @@
 -- The stored numbers of a batch by row number and by node number.
 -- Assumes nothing.
 use mathlib.Core.Path.{_≡_, refl, sym, ap, _∙_}
-use Prim.Native.Nat.{ℕ, _+_, _*_, _<_}
+use Prim.Native.Nat.{ℕ, _+_, _*_, _/_, _<_}
+use native.Mathlib.Nat.{mul-div-cancel, zero-lt-suc}
 use native.Mathlib.Omega.{arith}
 use mathlib.Core.List.{List, [], _∷_, _++_, flatMap, append-nil}
 use lib.ListN.{length, getD, length-append}
 use Rattle.lists.proofs.FlatMap.{flatMap-append}
 use Rattle.record.specs.Tree.{Row, Forest, none, node}
-use Rattle.record.specs.Flat.{rowWidth, rowNumbers, flatRows}
+use Rattle.record.specs.Flat.{rowWidth, rowNumbers, rowAt, flatRows}
 use Rattle.record.specs.WellFormed.{nodesIn, rowsIn}
+use Rattle.record.specs.Read.{read, holds, several}
 use Rattle.record.specs.Walk.{allRows, allEncodings}
-use Rattle.record.proofs.Flat.{several-at, row-stored}
+use Rattle.record.proofs.Flat.{length-numbers, several-back, several-at, row-stored}
+use Rattle.record.proofs.Read.{stored}
 
 pub numbers-append : (s t : List Row) → flatMap rowNumbers (s ++ t) ≡ flatMap rowNumbers s ++ flatMap rowNumbers t
 numbers-append = flatMap-append rowNumbers
@@ -19,6 +22,18 @@ pub flat-rows : (f : Forest) → flatRows f ≡ flatMap rowNumbers (allRows f)
 unfolding flatRows flatMap allRows
 flat-rows none = refl
 flat-rows (node r q w x) = rw (flat-rows w, flat-rows x) (sym (numbers-append r (allRows w ++ allRows x) ∙ ap (flatMap rowNumbers r ++_) (numbers-append (allRows w) (allRows x))))
+
+-- the numbers of a batch are its rows
+pub rows-stored : (nodes rows : List ℕ) (f : Forest) → read nodes rows ≡ holds f → several rowAt rowWidth (length rows / rowWidth) rows ≡ allRows f
+rows-stored nodes rows f e =
+    let numbers : rows ≡ flatMap rowNumbers (allRows f) = sym (stored nodes rows f e .rows-are) ∙ flat-rows f in
+    let count : length rows / rowWidth ≡ length (allRows f)
+    = ap (λ (l : List ℕ). length l / rowWidth) numbers
+    ∙ ap (λ (n : ℕ). n / rowWidth) (length-numbers row-stored (allRows f))
+    ∙ mul-div-cancel (length (allRows f)) (zero-lt-suc 10) in
+    ap (λ (n : ℕ). several rowAt rowWidth n rows) count
+    ∙ ap (several rowAt rowWidth (length (allRows f))) (numbers ∙ sym (append-nil (flatMap rowNumbers (allRows f))))
+    ∙ several-back row-stored (allRows f) []
 
 pub length-all-rows : (f : Forest) → length (allRows f) ≡ rowsIn f
 unfolding allRows

@@ -10,7 +10,8 @@ use Rattle.record_room.specs.Room.{hasRoom}
 use Rattle.join_trees.specs.Join.{fold}
 use Rattle.join_trees.specs.Offsets.{foldFits}
 use Rattle.join_size.specs.Contracts.{Sizes}
-use Rattle.fold_check.proofs.Deciding.{decided-malformed, batch-there, decided-no-room, decided-no-working, decided-too-large, decided-fold}
+use Rattle.record_check.proofs.Checked.{batch-there}
+use Rattle.fold_check.proofs.Deciding.{decided-malformed, decided-no-room, decided-no-working, decided-too-large, decided-fold}
 use Rattle.fold_check.proofs.decide.Statement.{statement}
 use Rattle.fold_check.proofs.decide.Tie as tie
 
