@@ -9,7 +9,7 @@ use Rattle.record.specs.declared.Fault.{Fault}
 use Rattle.record.specs.declared.FaultAnswer.{FaultAnswer}
 use Rattle.record.specs.declared.FaultAnswer.the-variants.{None, Part}
 use Rattle.record.specs.declared.Refusal.{Refusal}
-use Rattle.record.specs.declared.Refusal.the-variants.{MalformedRecord, NoRoom, Stride, SecondMissing, TooShort, OffsetTooLarge, TemplateTooLong, PairLacksAOrB, SpecialIdUnknown, BWithoutSecond, IdsAndTextsDiffer, SequenceIdAboveLast, TextOutsidePool, MalformedTable, NotText, OffsetPastEnd, OffsetInsideCharacter, PartUnreadable}
+use Rattle.record.specs.declared.Refusal.the-variants.{MalformedRecord, NoRoom, Stride, SecondMissing, TooShort, OffsetTooLarge, TemplateTooLong, PairLacksAOrB, SpecialIdUnknown, BWithoutSecond, IdsAndTextsDiffer, SequenceIdAboveLast, TextOutsidePool, MalformedTable, NotText, OffsetPastEnd, OffsetInsideCharacter, PartUnreadable, TotalTooLarge}
 
 -- "19 more than one colon, 20 bad type number, 21 unknown sequence name" of document 02
 abbrev pub whyNumber : Why → ℕ
@@ -20,7 +20,8 @@ whyNumber UnknownSequenceName = 21
 -- "1 malformed record, 2 no room, 3 stride, 4 second missing, 5 too short, 6 offset too large, .. 8 template too long,
 -- 9 pair lacks A or B, 10 special id unknown, 11 B without a second, 12 ids and texts differ in number, 13 sequence id above 7,
 -- 14 text outside its pool, 15 malformed table"; of document 02 "text that is not UTF-8 or is above 4,294,967,295 bytes (16), an
--- offset past the end of the text (17), an offset inside a character (18)", and 19 to 21 "all in 7's position; 7 is given no more"
+-- offset past the end of the text (17), an offset inside a character (18)", 19 to 21 "all in 7's position; 7 is given no more", and
+-- "22 if a total would pass 18,446,744,073,709,551,615"
 abbrev pub numberOf : Refusal → ℕ
 numberOf MalformedRecord = 1
 numberOf NoRoom = 2
@@ -40,6 +41,7 @@ numberOf NotText = 16
 numberOf OffsetPastEnd = 17
 numberOf OffsetInsideCharacter = 18
 numberOf (PartUnreadable fault) = whyNumber (fault .why)
+numberOf TotalTooLarge = 22
 
 -- the part at fault, which only 19 to 21 tell: any other "refusal carries only its number"
 abbrev pub faultOf : Refusal → Option Fault
@@ -61,6 +63,7 @@ faultOf NotText = nothing
 faultOf OffsetPastEnd = nothing
 faultOf OffsetInsideCharacter = nothing
 faultOf (PartUnreadable fault) = some fault
+faultOf TotalTooLarge = nothing
 
 abbrev pub faultAnswer : Option Fault → FaultAnswer
 faultAnswer nothing = None

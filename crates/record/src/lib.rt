@@ -135,6 +135,7 @@ pub enum Refusal {
     OffsetPastEnd,
     OffsetInsideCharacter,
     PartUnreadable(Fault),
+    TotalTooLarge,
 }
 
 // The part of a template that is at fault, or none.
@@ -170,6 +171,7 @@ impl Refusal {
                 let why = fault.why;
                 why.number()
             }
+            Refusal::TotalTooLarge => 22,
         }
     }
 

@@ -7,12 +7,12 @@ use types.Run.{OneOf, miss}
 use borrow.Author.Needs.{needs}
 use Rattle.record.specs.Refusals.{faultOf, faultAnswer}
 use Rattle.record.specs.declared.Refusal.{Refusal}
-use Rattle.record.specs.declared.Refusal.the-variants.{MalformedRecord, NoRoom, Stride, SecondMissing, TooShort, OffsetTooLarge, TemplateTooLong, PairLacksAOrB, SpecialIdUnknown, BWithoutSecond, IdsAndTextsDiffer, SequenceIdAboveLast, TextOutsidePool, MalformedTable, NotText, OffsetPastEnd, OffsetInsideCharacter, PartUnreadable}
+use Rattle.record.specs.declared.Refusal.the-variants.{MalformedRecord, NoRoom, Stride, SecondMissing, TooShort, OffsetTooLarge, TemplateTooLong, PairLacksAOrB, SpecialIdUnknown, BWithoutSecond, IdsAndTextsDiffer, SequenceIdAboveLast, TextOutsidePool, MalformedTable, NotText, OffsetPastEnd, OffsetInsideCharacter, PartUnreadable, TotalTooLarge}
 use Rattle.record.proofs.Refusal.{the-type}
 use Rattle.record.proofs.Refusal.fault.Statement.{statement}
 use Rattle.record.proofs.Refusal.fault.Tie as tie
 
-none-told : (k : Refusal) → OneOf (0 ∷ 1 ∷ 2 ∷ 3 ∷ 4 ∷ 5 ∷ 6 ∷ 7 ∷ 8 ∷ 9 ∷ 10 ∷ 11 ∷ 12 ∷ 13 ∷ 14 ∷ 15 ∷ 16 ∷ []) (tagOf the-type k) → faultOf k ≡ nothing
+none-told : (k : Refusal) → OneOf (0 ∷ 1 ∷ 2 ∷ 3 ∷ 4 ∷ 5 ∷ 6 ∷ 7 ∷ 8 ∷ 9 ∷ 10 ∷ 11 ∷ 12 ∷ 13 ∷ 14 ∷ 15 ∷ 16 ∷ 18 ∷ []) (tagOf the-type k) → faultOf k ≡ nothing
 none-told MalformedRecord h = refl
 none-told NoRoom h = refl
 none-told Stride h = refl
@@ -30,7 +30,8 @@ none-told MalformedTable h = refl
 none-told NotText h = refl
 none-told OffsetPastEnd h = refl
 none-told OffsetInsideCharacter h = refl
-none-told (PartUnreadable fault) h = absurd (miss (0 ∷ 1 ∷ 2 ∷ 3 ∷ 4 ∷ 5 ∷ 6 ∷ 7 ∷ 8 ∷ 9 ∷ 10 ∷ 11 ∷ 12 ∷ 13 ∷ 14 ∷ 15 ∷ 16 ∷ []) 17 tt h)
+none-told (PartUnreadable fault) h = absurd (miss (0 ∷ 1 ∷ 2 ∷ 3 ∷ 4 ∷ 5 ∷ 6 ∷ 7 ∷ 8 ∷ 9 ∷ 10 ∷ 11 ∷ 12 ∷ 13 ∷ 14 ∷ 15 ∷ 16 ∷ 18 ∷ []) 17 tt h)
+none-told TotalTooLarge h = refl
 
 enum-known-self : tie.Need-enum-known-self
 enum-known-self c = search needs

@@ -59,6 +59,9 @@ returns-17 c = ap numberOf (sym (c .enum-told17 .given .1))
 returns-18 : tie.Need-returns-18
 returns-18 c = c .number .ensures ∙ ap numberOf (sym (c .before .before .self .given .1))
 
+returns-19 : tie.Need-returns-19
+returns-19 c = ap numberOf (sym (c .enum-told18 .given .1))
+
 pub number-spec : {M : Type 1} → statement M
 number-spec =
     tie.close
@@ -82,6 +85,7 @@ number-spec =
     (λ c. search needs)
     (λ c. search needs)
     (λ c κs. search needs)
+    (λ c. search needs)
     returns
     returns-2
     returns-3
@@ -99,4 +103,5 @@ number-spec =
     returns-15
     returns-16
     returns-17
-    returns-18)
+    returns-18
+    returns-19)
