@@ -10,7 +10,8 @@ use borrow.Author.Tests.{ne-eqb}
 use Rattle.cut_plan.specs.Cut.{ceiling}
 use Rattle.cut_plan.proofs.Ceiling.{ceiling-reaches, ceiling-least}
 use Rattle.lists.proofs.Numbers.{either}
-use Rattle.pad_length.specs.Rounding.{roundedUp, Divides, LeastMultiple}
+use Rattle.fractions.specs.Fractions.{Divides}
+use Rattle.pad_length.specs.Rounding.{roundedUp, LeastMultiple}
 
 -- "multiple 0 means none"
 pub rounded-none : (length : ℕ) → roundedUp length 0 ≡ length

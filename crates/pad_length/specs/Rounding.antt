@@ -1,18 +1,14 @@
 -- A length rounded up to a multiple (document 01, "Pad batch").
 -- Assumes nothing: these are definitions.
-use mathlib.Core.Path.{_≡_}
 use mathlib.Core.Bool.{cond}
 use Prim.Native.Nat.{ℕ, _*_, _≤_}
 use lib.Dec.{eqb}
+use Rattle.fractions.specs.Fractions.{Divides}
 use Rattle.cut_plan.specs.Cut.{ceiling}
 
 -- "rounded up to a multiple; multiple 0 means none"
 unfoldable pub roundedUp : ℕ → ℕ → ℕ
 roundedUp length multiple = cond (eqb multiple 0) length (ceiling length multiple * multiple)
-
--- n is a multiple
-abbrev pub Divides : ℕ → ℕ → Type 0
-Divides multiple n = (k : ℕ) × (n ≡ k * multiple)
 
 -- "the least one not below the length that the multiple divides"
 pub record LeastMultiple (length multiple n : ℕ) : Type 0 where
