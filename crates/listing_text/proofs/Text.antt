@@ -2,15 +2,15 @@
 -- Assumes nothing.
 use mathlib.Core.Path.{_≡_, refl, sym, ap, _∙_}
 use mathlib.Core.Bool.{Bool, true, false, cond}
-use Prim.Native.Nat.{ℕ, zero, suc, _+_, _/_, _%_, _^_, _≤_, _<_}
-use native.Mathlib.Nat.{mod-eq-of-lt, div-lt-iff-lt-mul, pow-suc}
+use Prim.Native.Nat.{ℕ, zero, suc, _+_, _-_, _/_, _%_, _^_, _≤_, _<_}
+use native.Mathlib.Nat.{add-suc, mod-eq-of-lt, div-lt-iff-lt-mul, pow-suc}
 use native.Mathlib.Omega.{arith}
 use mathlib.Core.List.{List, [], _∷_, _++_}
 use lib.Dec.{ltb}
 use lib.ListN.{length, length-append}
 use borrow.Author.Tests.{ltb-true, ltb-false, lt-ltb, le-ltb}
 use Rattle.lines.specs.Decimal.{zeroByte, mostDigits, largestU32}
-use Rattle.listing_text.specs.Text.{digitsUpTo, numberText}
+use Rattle.listing_text.specs.Text.{digitsUpTo, numberText, longDigits, largestLong, longText}
 
 -- the last digit
 abbrev pub lastOf : ℕ → List ℕ
@@ -34,27 +34,34 @@ digits-few (suc most) n = go (ltb n 10) (digits-few most (n / 10))
     go true h = omega arith
     go false h = omega (arith, length-append (digitsUpTo most (n / 10)) (lastOf n))
 
--- one more is not used by a number that has no more
-digits-enough : (most n : ℕ) → n < 10 ^ suc most → digitsUpTo (suc (suc most)) n ≡ digitsUpTo (suc most) n
-digits-enough zero n h = digits-one 1 n h ∙ rw (digits-one 0 n h)
-digits-enough (suc most) n h = go (ltb n 10) refl (digits-enough most (n / 10) (div-lt-iff-lt-mul (omega arith) .1 (rw (pow-suc 10 (suc most)) at h)))
+-- more digits than a number has are not used
+digits-enough : (more most n : ℕ) → n < 10 ^ suc most → digitsUpTo (more + suc most) n ≡ digitsUpTo (suc most) n
+digits-enough more zero n h = rw (add-suc more zero, digits-one (more + zero) n h, digits-one 0 n h)
+digits-enough more (suc most) n h = go (ltb n 10) refl (digits-enough more most (n / 10) (div-lt-iff-lt-mul (omega arith) .1 (rw (pow-suc 10 (suc most)) at h)))
   where
-    go : (b : Bool) → ltb n 10 ≡ b → digitsUpTo (suc (suc most)) (n / 10) ≡ digitsUpTo (suc most) (n / 10) → digitsUpTo (suc (suc (suc most))) n ≡ digitsUpTo (suc (suc most)) n
-    go true e d = let l = ltb-true n 10 e in digits-one (suc (suc most)) n l ∙ rw (digits-one (suc most) n l)
+    go : (b : Bool) → ltb n 10 ≡ b → digitsUpTo (more + suc most) (n / 10) ≡ digitsUpTo (suc most) (n / 10) → digitsUpTo (more + suc (suc most)) n ≡ digitsUpTo (suc (suc most)) n
+    go true e d = let l = ltb-true n 10 e in rw (add-suc more (suc most), digits-one (more + suc most) n l, digits-one (suc most) n l)
     go false e d =
         let l : 9 < n = omega (arith, ltb-false n 10 e) in
-        digits-more (suc (suc most)) n l ∙ ap (_++ lastOf n) d ∙ rw (digits-more (suc most) n l)
+        rw (add-suc more (suc most), digits-more (more + suc most) n l, digits-more (suc most) n l, d)
 
 -- a number as text, from its last digit
 module _ (n : ℕ) where
-  pub number-one : n < 10 → numberText n ≡ (zeroByte + n) ∷ []
-  number-one h = digits-one 9 n h ∙ ap (λ (d : ℕ). (zeroByte + d) ∷ []) (mod-eq-of-lt h)
-
-  pub number-more : 9 < n → n ≤ largestU32 → numberText n ≡ numberText (n / 10) ++ lastOf n
-  number-more h l = digits-more 9 n h ∙ ap (_++ lastOf n) (sym (digits-enough 8 (n / 10) (omega arith)))
-
-  pub number-longer : 9 < n → n ≤ largestU32 → length (numberText n) ≡ length (numberText (n / 10)) + 1
-  number-longer h l = ap length (number-more h l) ∙ length-append (numberText (n / 10)) (lastOf n)
-
   pub number-few : length (numberText n) ≤ mostDigits
   number-few = digits-few mostDigits n
+
+  pub long-few : length (longText n) ≤ longDigits
+  long-few = digits-few longDigits n
+
+  pub long-one : n < 10 → longText n ≡ (zeroByte + n) ∷ []
+  long-one h = digits-one _ n h ∙ ap (λ (d : ℕ). (zeroByte + d) ∷ []) (mod-eq-of-lt h)
+
+  pub long-more : 9 < n → n ≤ largestLong → longText n ≡ longText (n / 10) ++ lastOf n
+  long-more h l = digits-more _ n h ∙ ap (_++ lastOf n) (sym (digits-enough 1 (longDigits - 2) (n / 10) (omega arith)))
+
+  pub long-longer : 9 < n → n ≤ largestLong → length (longText n) ≡ length (longText (n / 10)) + 1
+  long-longer h l = ap length (long-more h l) ∙ length-append (longText (n / 10)) (lastOf n)
+
+  -- 10 digits are enough for a number of 32 bits, so the two texts are one
+  pub long-short : n ≤ largestU32 → longText n ≡ numberText n
+  long-short l = digits-enough (longDigits - mostDigits) (mostDigits - 1) n (omega arith)

@@ -22,3 +22,15 @@ digitsUpTo (suc most) n = cond (ltb n 10) [] (digitsUpTo most (n / 10)) ++ ((zer
 -- a number of at most 10 digits as text
 abbrev pub numberText : ℕ → List ℕ
 numberText n = digitsUpTo mostDigits n
+
+-- "18,446,744,073,709,551,615" has 20 digits
+abbrev pub longDigits : ℕ
+longDigits = 20
+
+-- the largest number of 64 bits
+abbrev pub largestLong : ℕ
+largestLong = 18446744073709551615
+
+-- a number of at most 20 digits as text
+abbrev pub longText : ℕ → List ℕ
+longText n = digitsUpTo longDigits n

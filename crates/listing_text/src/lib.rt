@@ -5,7 +5,7 @@ ghost use Prim.Native.Nat.{_+_, _≤_, _<_};
 ghost use lib.ListN.{length};
 ghost use Rattle.lines.specs.Decimal.{zeroByte};
 ghost use Rattle.listing_text.specs.Contracts.{WroteText};
-ghost use Rattle.listing_text.specs.Text.{numberText};
+ghost use Rattle.listing_text.specs.Text.{numberText, longText};
 
 const ZERO: u8 = b'0';
 
@@ -23,9 +23,9 @@ pub fn write_text(text: &[u8], out: &mut [u8], at: usize) -> usize
 }
 
 // The digits of a number, and the place after them: those of its tenth part, if it has more than one, and the last.
-pub fn write_number(value: u32, out: &mut [u8], at: usize) -> usize
-    requires { ⌜ at + length (numberText value) ≤ length (now out) ⌝ }
-    ensures { λ r. ⌜ WroteText (numberText value) (now (out .entry)) at r (now (out .exit)) ⌝ }
+pub fn write_number(value: u64, out: &mut [u8], at: usize) -> usize
+    requires { ⌜ at + length (longText value) ≤ length (now out) ⌝ }
+    ensures { λ r. ⌜ WroteText (longText value) (now (out .entry)) at r (now (out .exit)) ⌝ }
 {
     if value > 9 {
         let last = write_number(value / 10, out, at);
@@ -34,14 +34,15 @@ pub fn write_number(value: u32, out: &mut [u8], at: usize) -> usize
     write_byte(digit(value), out, at)
 }
 
-fn digit(value: u32) -> u8
+fn digit(value: u64) -> u8
     requires { ⌜ value < 10 ⌝ }
     ensures { λ r. ⌜ r ≡ zeroByte + value ⌝ }
 {
     ZERO + value as u8
 }
 
-fn write_byte(byte: u8, out: &mut [u8], at: usize) -> usize
+// One byte, and the place after it.
+pub fn write_byte(byte: u8, out: &mut [u8], at: usize) -> usize
     requires { ⌜ at < length (now out) ⌝ }
     ensures { λ r. ⌜ WroteText (byte ∷ []) (now (out .entry)) at r (now (out .exit)) ⌝ }
 {
@@ -54,6 +55,6 @@ pub fn write_field(value: u32, byte: u8, out: &mut [u8], at: usize) -> usize
     requires { ⌜ at + length (numberText value) + 1 ≤ length (now out) ⌝ }
     ensures { λ r. ⌜ WroteText (numberText value ++ (byte ∷ [])) (now (out .entry)) at r (now (out .exit)) ⌝ }
 {
-    let next = write_number(value, out, at);
+    let next = write_number(value as u64, out, at);
     write_byte(byte, out, next)
 }
