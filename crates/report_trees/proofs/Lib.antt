@@ -1,0 +1,4 @@
+pub mod Counts
+pub mod AddUp
+pub mod Totals
+pub mod Orders
