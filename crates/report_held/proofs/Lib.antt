@@ -1,0 +1,3 @@
+pub mod Reports
+pub mod Settling
+pub mod Samples
