@@ -1,7 +1,7 @@
-// Standard input for programs: lines, gathered from pieces of the input.
+// Standard input for programs: pieces of the input as they are read, and lines gathered from them.
 //
 // A read that fails is met in `not_read` alone: a line on standard error says so, and why, and no line is found after it, nor
-// one that it cut off. A program is a loop over `next_line`.
+// one that it cut off. A program is a loop over `next_line`, or over `read_piece`.
 ghost use mathlib.Core.Bool.{true, false};
 ghost use mathlib.Core.Path.{_≡_};
 ghost use Rattle.io.specs.Counts.{Counts};
@@ -51,8 +51,11 @@ fn gather(piece: &mut [u8; PIECE], line: &mut [u8], before: Unread) -> Gathered 
     gathered
 }
 
-// The next bytes of the input.
-fn read_piece(piece: &mut [u8; PIECE]) -> Unread {
+// The next bytes of the input, put at the start of the piece: none if a signal came or nothing is there yet, and once the input has
+// ended or a read has failed, which closes it.
+pub fn read_piece(piece: &mut [u8; PIECE]) -> Unread
+    ensures { λ r. ⌜ Counts (r .end) (now (piece .exit)) ⌝ }
+{
     let got = libc::read(STDIN_FILENO, piece);
     if got < 0 {
         return not_read();
@@ -67,7 +70,9 @@ fn read_piece(piece: &mut [u8; PIECE]) -> Unread {
 }
 
 // After a read that gave an error: nothing is read, and the next turn reads again, or the input has failed.
-fn not_read() -> Unread {
+fn not_read() -> Unread
+    ensures { λ r. ⌜ r .end ≡ 0 ⌝ }
+{
     let again = input_output::again(os::errno());
     if !again {
         os::fail(b"standard input");
