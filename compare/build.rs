@@ -8,7 +8,7 @@ use std::path::{Path, PathBuf};
 use std::{env, fs};
 
 /// The functions, after `noddrefyr_`, in the order of the header.
-const ORDER: [&str; 27] = [
+const ORDER: [&str; 29] = [
     "check_batch",
     "from_tokens",
     "set_sequence_id",
@@ -36,6 +36,8 @@ const ORDER: [&str; 27] = [
     "process",
     "bytes_to_chars",
     "chars_to_bytes",
+    "report_add",
+    "report_share",
 ];
 
 /// Where the crates stand.

@@ -43,6 +43,7 @@ enum noddrefyr_refusal {
     NODDREFYR_MORE_THAN_ONE_COLON = 19,
     NODDREFYR_BAD_TYPE_NUMBER = 20,
     NODDREFYR_UNKNOWN_SEQUENCE_NAME = 21,
+    NODDREFYR_TOTAL_TOO_LARGE = 22,
 };
 
 /* Whether two slices are a well-formed batch (else 1), and the number of its encodings at the top. */
@@ -325,6 +326,19 @@ uint32_t noddrefyr_chars_to_bytes(
     uint32_t *out_nodes, size_t out_nodes_len,
     uint32_t *out_rows, size_t out_rows_len,
     size_t written[2]);
+
+/* A batch added to a report, which is six totals: encodings at the top, windows at every level, rows of both; of these rows those
+   with attention 0, those with attention not 0 and special mask not 0, and the rest. An empty report is six zeros.
+   Refused with 1, 22. */
+uint32_t noddrefyr_report_add(
+    const uint32_t *nodes, size_t nodes_len,
+    const uint32_t *rows, size_t rows_len,
+    uint64_t report[6]);
+
+/* The rows with attention 0 over all rows of a report, in lowest terms; 0 of 0 when there are no rows. Never refused. */
+uint32_t noddrefyr_report_share(
+    const uint64_t report[6],
+    uint64_t share[2]);
 
 #ifdef __cplusplus
 }

@@ -35,14 +35,7 @@ fn case(t: &mut Tally, b: &Batch) {
 
 fn compare(t: &mut Tally, r: &mut Rng, count: u64) {
     let visit = &mut |b: &Batch| case(t, b);
-    inputs::all_shapes(visit);
-    inputs::all_ranges(visit);
-    inputs::all_rows(visit);
-    for b in inputs::at_limits() {
-        inputs::three_lengths(visit, &b);
-        inputs::some_damages(visit, r, &b, 10);
-    }
-    inputs::wrapping().iter().for_each(&mut *visit);
+    inputs::exhaustive(visit, r);
     for i in 0..count {
         let small = inputs::random_small(r, i);
         visit(&small);

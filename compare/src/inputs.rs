@@ -28,6 +28,18 @@ pub fn three_lengths(visit: &mut impl FnMut(&Batch), b: &Batch) {
     visit(&long);
 }
 
+/// All that is exhaustive: small batches, those at the limits with some damages, and counts that wrap around.
+pub fn exhaustive(visit: &mut impl FnMut(&Batch), r: &mut Rng) {
+    all_shapes(visit);
+    all_ranges(visit);
+    all_rows(visit);
+    for b in at_limits() {
+        three_lengths(visit, &b);
+        some_damages(visit, r, &b, 10);
+    }
+    wrapping().iter().for_each(visit);
+}
+
 /// Every combination of row and window counts over few nodes.
 pub fn all_shapes(visit: &mut impl FnMut(&Batch)) {
     for (most_nodes, most_rows, most_windows) in [(4, 2, 3), (5, 1, 4), (6, 0, 5)] {

@@ -1,65 +1,18 @@
 //! The window lister, a program of the repository: its whole output, byte for byte, beside an independent listing of the
 //! same lines.
+use crate::running::{self, in_pieces, shown, Printed};
 use crate::tally::Tally;
 use crate::{bench, listing, Program};
-use std::fs::{self, File};
-use std::io::{Read, Write};
-use std::os::fd::OwnedFd;
-use std::os::unix::net::UnixDatagram;
-use std::process::{Child, Command, Stdio};
-use std::thread;
 use tokenizers::rng::Rng;
 
 pub const PROGRAM: Program = Program { name: "window_lister", compare, bench: times };
 
-/// From the root of the repository, where `run` builds it.
 const PATH: &str = "target/bin/window_lister";
-
-// ---- Running it
-
-fn start(input: impl Into<Stdio>) -> Child {
-    Command::new(PATH).stdin(input).stdout(Stdio::piped()).spawn().unwrap_or_else(|e| panic!("{PATH}: {e}"))
-}
-
-/// What it prints, or how it ended if not well.
-fn printed(mut child: Child) -> Result<Vec<u8>, String> {
-    let mut out = vec![];
-    child.stdout.take().unwrap().read_to_end(&mut out).expect("its output");
-    let status = child.wait().expect("its end");
-    if status.success() { Ok(out) } else { Err(status.to_string()) }
-}
-
-/// Through a pipe, written piece by piece; it may read some of them at once.
-fn through_pipe(pieces: &[&[u8]]) -> Result<Vec<u8>, String> {
-    let mut child = start(Stdio::piped());
-    let mut pipe = child.stdin.take().unwrap();
-    thread::scope(|s| {
-        // it may end before it has read all: its output will show that
-        s.spawn(move || pieces.iter().try_for_each(|piece| pipe.write_all(piece)));
-        printed(child)
-    })
-}
-
-/// Through a socket that keeps pieces apart, so that it reads just one at a time. None may be empty: that is the end.
-fn piece_by_piece(pieces: &[&[u8]]) -> Result<Vec<u8>, String> {
-    let (from, to) = UnixDatagram::pair().expect("a pair of sockets");
-    let child = start(OwnedFd::from(to));
-    thread::scope(|s| {
-        s.spawn(move || pieces.iter().chain([&&b""[..]]).try_for_each(|piece| from.send(piece).map(drop)));
-        printed(child)
-    })
-}
 
 // ---- Comparing
 
-/// A line as it can be shown.
-fn shown(line: &[u8]) -> String {
-    let end = line.len().min(80);
-    format!("`{}`{}", line[..end].escape_ascii(), if end < line.len() { format!(" and {} bytes more", line.len() - end) } else { String::new() })
-}
-
 /// One case for each line, and one for what is printed after all of them.
-fn case(t: &mut Tally, input: &[u8], got: Result<Vec<u8>, String>) {
+fn case(t: &mut Tally, input: &[u8], got: Printed) {
     let got = match got {
         Ok(got) => got,
         Err(end) => return t.case(false, || (format!("it ended with {end}"), shown(input))),
@@ -75,7 +28,7 @@ fn case(t: &mut Tally, input: &[u8], got: Result<Vec<u8>, String>) {
 }
 
 fn at_once(t: &mut Tally, input: &[u8]) {
-    case(t, input, through_pipe(&[input]));
+    case(t, input, running::through_pipe(PATH, &[input]));
 }
 
 /// With and without its last newline.
@@ -195,17 +148,6 @@ fn long_lines() -> Vec<u8> {
     out
 }
 
-/// An input in pieces of up to `most` bytes.
-fn in_pieces<'a>(r: &mut Rng, mut input: &'a [u8], most: u64) -> Vec<&'a [u8]> {
-    let mut out = vec![];
-    while !input.is_empty() {
-        let (piece, rest) = input.split_at((1 + r.below(most) as usize).min(input.len()));
-        out.push(piece);
-        input = rest;
-    }
-    out
-}
-
 fn compare(t: &mut Tally, r: &mut Rng, count: u64) {
     // the Rust panics where a stride is refused; what it would print of that is left out
     let hook = std::panic::take_hook();
@@ -229,32 +171,18 @@ fn compare(t: &mut Tally, r: &mut Rng, count: u64) {
     for i in 0..count / 10 {
         let input = [random_lines(r, 30), damaged_lines(r, 30), b"10 4 1 R".repeat((i % 2) as usize)].concat();
         let pieces = in_pieces(r, &input, 1 + i % 70);
-        case(t, &input, piece_by_piece(&pieces));
-        case(t, &input, through_pipe(&pieces));
+        case(t, &input, running::piece_by_piece(PATH, &pieces));
+        case(t, &input, running::through_pipe(PATH, &pieces));
     }
     std::panic::set_hook(hook);
 }
 
 // ---- Timing
 
-/// Its time in ns over a file, what it prints thrown away: the middle of five runs.
-fn time(input: &[u8]) -> f64 {
-    let path = std::env::temp_dir().join(format!("window_lister.{}", std::process::id()));
-    fs::write(&path, input).expect("a file of lines");
-    let run = || {
-        let file = File::open(&path).expect("the file of lines");
-        let status = Command::new(PATH).stdin(file).stdout(Stdio::null()).status();
-        assert!(status.is_ok_and(|s| s.success()), "{PATH} ended badly");
-    };
-    let time = bench::few(5, run);
-    fs::remove_file(&path).expect("the file is there");
-    time
-}
-
 fn times() {
     for (what, line, times) in [("20 MB of lines that print whole", "10 10 0 R\n", 2_000_000), ("20 MB of lines of three windows", "10 4 1 R\n", 2_222_222), ("65,535 windows", "65536 2 1 R\n", 1)] {
         let input = line.repeat(times);
-        let ours = time(input.as_bytes());
+        let ours = running::time(PATH, input.as_bytes());
         let reading = || listing::lines(input.as_bytes()).into_iter().map(listing::plain_answer).collect::<String>();
         let printed = reading().len() as f64;
         let other = bench::few(5, reading);

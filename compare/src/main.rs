@@ -16,6 +16,9 @@ mod outputs;
 mod padding;
 mod pairs;
 mod processing;
+mod report;
+mod reports;
+mod running;
 mod sequence_column;
 mod tables;
 mod tally;
@@ -57,6 +60,7 @@ fn operations() -> Vec<Operation> {
     all.extend([merging::MERGE_WITH, merging::MERGE, pairs::OPERATION, padding::PAD, padding::PAD_ENCODINGS]);
     all.extend([templates::OPERATION, validating::VALIDATE, validating::COUNT_ADDED, processing::OPERATION]);
     all.extend([offsets::BYTES_TO_CHARS, offsets::CHARS_TO_BYTES]);
+    all.extend([reports::REPORT_ADD, reports::REPORT_SHARE]);
     all
 }
 
@@ -69,7 +73,7 @@ pub struct Program {
     pub bench: fn(),
 }
 
-const PROGRAMS: [Program; 1] = [lister::PROGRAM];
+const PROGRAMS: [Program; 2] = [lister::PROGRAM, report::PROGRAM];
 
 /// All that can be compared and timed: the operations, then the programs.
 fn all() -> Vec<Program> {

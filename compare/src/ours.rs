@@ -344,6 +344,16 @@ pub fn count_added(set: bool, text: &[u8], is_pair: bool, table: Table) -> (u32,
     (refusal, count, fault)
 }
 
+/// The refusal, 0 for none. Each total of the report grows by what the batch has of it, unless refused.
+pub fn report_add(nodes: &[u32], rows: &[u32], report: &mut [u64; 6]) -> u32 {
+    unsafe { bindings::noddrefyr_report_add(nodes.as_ptr(), nodes.len(), rows.as_ptr(), rows.len(), report.as_mut_ptr()) }
+}
+
+/// The refusal, always 0. `share` becomes the two numbers of the report's padding share.
+pub fn report_share(report: &[u64; 6], share: &mut [u64; 2]) -> u32 {
+    unsafe { bindings::noddrefyr_report_share(report.as_ptr(), share.as_mut_ptr()) }
+}
+
 /// What processing leaves in the output and the working store, and the part at fault of the template used and its place.
 #[derive(Clone, PartialEq, Eq, Debug)]
 pub struct Processed {
