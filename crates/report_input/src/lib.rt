@@ -13,7 +13,8 @@ pub struct Step {
     pub held: Held,
 }
 
-// TakesNext a piece of the input. `batch` has the bytes held at its start, and `numbers` is for those of a batch that has come whole.
+// Takes a piece of the input. `batch` has the bytes held at its start, and `numbers` is for those of a batch that has come whole;
+// what stands in `numbers` afterwards, and in `batch` behind the bytes held, is left open.
 pub fn feed(piece: &[u8], before: Held, batch: &mut [u8], numbers: &mut [u32]) -> Held
     requires { ⌜ LentStores (now batch) (now numbers) ⌝ }
     requires { ⌜ Partial (now batch) (before .bytes) ⌝ }
@@ -29,7 +30,7 @@ pub fn feed(piece: &[u8], before: Held, batch: &mut [u8], numbers: &mut [u32]) -
     step.held
 }
 
-// TakesNext as many bytes as the counts or the batch still want. After a refusal the rest is passed over.
+// Takes as many bytes as the counts or the batch still want. After a refusal the rest is passed over.
 fn next(piece: &[u8], from: Step, batch: &mut [u8], numbers: &mut [u32]) -> Step
     requires { ⌜ LentStores (now batch) (now numbers) ⌝ }
     requires { ⌜ Partial (now batch) (from .held .bytes) ⌝ }

@@ -43,7 +43,7 @@ fn row_numbers(bytes: &[u8]) -> usize
     lists::wide(words::word_at(bytes, WORD)) * Encoding::ROW_WIDTH
 }
 
-// The batch added to a report. Its numbers are put at the start of `numbers`.
+// The batch added to a report. Its numbers are put at the start of `numbers`, whose contents afterwards are left open.
 pub fn add_stored(bytes: &[u8], numbers: &mut [u32], report: Report) -> Added
     requires { ⌜ Whole (now bytes) (now numbers) ⌝ }
     ensures { λ r. ⌜ r ≡ addAnswer (storedBatch (now (bytes .entry))) report ⌝ }

@@ -13,7 +13,7 @@ use Rattle.record.specs.Walk.{allRows}
 use Rattle.record.proofs.Walk.{length-all-rows}
 use Rattle.record.specs.declared.Refusal.the-variants.{TotalTooLarge}
 use Rattle.report_trees.specs.Counts.{one, howMany, isPadding, isSpecial, isRest}
-use Rattle.report_trees.specs.Report.{counted, summed, withinTotals, totalled, addAnswer, Begun, begun, more, KindsAddUp}
+use Rattle.report_trees.specs.Report.{counted, summed, withinTotals, totalled, addAnswer, Begun, begun-empty, begun-more, KindsAddUp}
 use Rattle.report_trees.specs.declared.Report.{Report}
 use Rattle.report_trees.specs.declared.Added.the-variants.{Refused, Done}
 
@@ -54,7 +54,7 @@ added-is (holds f) r e = (f, refl, totalled-is (summed r (counted f)) e)
 
 -- "in every report begun empty the three kinds are shown to add up to the rows"
 pub begun-adds-up : {r : Report} → Begun r → KindsAddUp r
-begun-adds-up begun = refl
-begun-adds-up (more {r} {s} nodes rows b e) =
+begun-adds-up begun-empty = refl
+begun-adds-up (begun-more {r} {s} nodes rows b e) =
     let added = added-is (read nodes rows) r e in
     subst KindsAddUp (sym (added .2)) (kinds-summed r (counted (added .0)) (begun-adds-up b) (kinds-of-batch (added .0)))

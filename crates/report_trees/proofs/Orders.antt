@@ -14,7 +14,7 @@ use Rattle.report_trees.specs.declared.Added.the-variants.{Refused, Done
 
 -- ---- One batch after another
 
--- the first is refused only if both summed are
+-- the first is refused only if both together are
 totalled-twice : (r s : Report) → thenAdded (totalled r) (λ t. totalled (summed t s)) ≡ totalled (summed r s)
 unfolding totalled
 totalled-twice r s = go (withinTotals r) (withinTotals (summed r s)) refl refl

@@ -34,7 +34,7 @@ isSpecial r = not (eqb (r .attention) 0) && not (eqb (r .special) 0)
 abbrev pub isRest : Row → Bool
 isRest r = not (eqb (r .attention) 0) && eqb (r .special) 0
 
--- "rows of both summed, and of the rows those ..": at every level
+-- "rows of both together, and of the rows those ..": at every level
 abbrev pub paddingIn : Forest → ℕ
 paddingIn f = howMany isPadding (allRows f)
 

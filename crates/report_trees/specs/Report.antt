@@ -19,7 +19,7 @@ use Rattle.report_trees.specs.declared.Added.the-variants.{Refused, Done
 abbrev pub emptyReport : Report
 emptyReport = record { encodings = 0; windows = 0; rows = 0; padding = 0; special = 0; rest = 0 }
 
--- "top encodings, windows at every level, rows of both summed, and of the rows those with attention 0, those with attention
+-- "top encodings, windows at every level, rows of both together, and of the rows those with attention 0, those with attention
 -- not 0 and special mask not 0, and the rest": what a batch adds
 abbrev pub counted : Forest → Report
 counted f = record { encodings = tops f; windows = windowsIn f; rows = rowsIn f; padding = paddingIn f; special = specialIn f; rest = restIn f }
@@ -65,8 +65,8 @@ addTwo a b r = thenAdded (addAnswer a r) (addAnswer b)
 
 -- "every report begun empty": the empty one, and one to which a batch was added that was not refused
 pub data Begun : Report → Type 0 where
-  begun : Begun emptyReport
-  more : {r s : Report} (nodes rows : List ℕ) → Begun r → addAnswer (read nodes rows) r ≡ Done s → Begun s
+  begun-empty : Begun emptyReport
+  begun-more : {r s : Report} (nodes rows : List ℕ) → Begun r → addAnswer (read nodes rows) r ≡ Done s → Begun s
 
 -- "the three kinds are shown to add up to the rows"
 abbrev pub KindsAddUp : Report → Type 0

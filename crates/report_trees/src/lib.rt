@@ -3,7 +3,7 @@ ghost use mathlib.Core.Path.{_≡_};
 ghost use Rattle.report_trees.specs.Report.{emptyReport};
 use record::Refusal;
 
-// Totals over all batches added: top encodings, windows at every level, the rows of both summed; and of the rows those with
+// Totals over all batches added: top encodings, windows at every level, the rows of both together; and of the rows those with
 // attention 0, those with attention not 0 and special mask not 0, and the rest.
 pub struct Report {
     pub encodings: u64,
