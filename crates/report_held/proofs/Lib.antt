@@ -1,3 +1,4 @@
 pub mod Reports
 pub mod Settling
 pub mod Samples
+pub mod Files

@@ -38,7 +38,7 @@ pub report-none : (r : Report) → reportFrom r [] ≡ Done r
 unfolding reportFrom reportUpTo
 report-none r = refl
 
-report-next : (r : Report) (bytes : List ℕ) → 0 < length bytes → reportFrom r bytes ≡ firstBatch bytes r (λ s. reportFrom s (drop (storedSize bytes) bytes))
+pub report-next : (r : Report) (bytes : List ℕ) → 0 < length bytes → reportFrom r bytes ≡ firstBatch bytes r (λ s. reportFrom s (drop (storedSize bytes) bytes))
 unfolding reportFrom reportUpTo
 report-next r [] h = absurd (omega arith)
 report-next r (b ∷ bytes) h =

@@ -29,13 +29,13 @@ resumed-is p q batch more = ap₂ (λ (n : ℕ) (report : Added). thenAdded repo
 
 -- the counts are among the first bytes
 module _ (batch : List ℕ) (n : ℕ) (counts : headBytes ≤ n) (inside : n ≤ length batch) where
-  front-long : length (take n batch) ≡ n
+  pub front-long : length (take n batch) ≡ n
   front-long = length-take-le n batch inside
 
   pub front-size : storedSize (take n batch) ≡ storedSize batch
   front-size = sym (size-first (take n batch) (drop n batch) (omega (arith, front-long))) ∙ ap storedSize (take-append-drop n batch)
 
-  front-batch : storedSize batch ≤ n → storedBatch (take n batch) ≡ storedBatch batch
+  pub front-batch : storedSize batch ≤ n → storedBatch (take n batch) ≡ storedBatch batch
   front-batch whole =
       sym (batch-first (take n batch) (drop n batch) (omega (arith, front-long)) (omega (arith, front-long, front-size))) ∙ ap storedBatch (take-append-drop n batch)
 

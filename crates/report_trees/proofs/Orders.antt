@@ -15,7 +15,7 @@ use Rattle.report_trees.specs.declared.Added.the-variants.{Refused, Done
 -- ---- One batch after another
 
 -- the first is refused only if both together are
-totalled-twice : (r s : Report) → thenAdded (totalled r) (λ t. totalled (summed t s)) ≡ totalled (summed r s)
+pub totalled-twice : (r s : Report) → thenAdded (totalled r) (λ t. totalled (summed t s)) ≡ totalled (summed r s)
 unfolding totalled
 totalled-twice r s = go (withinTotals r) (withinTotals (summed r s)) refl refl
   where
@@ -35,7 +35,7 @@ added-twice f g r = totalled-twice (summed r (counted f)) (counted g)
 swap : (a b c : ℕ) → a + b + c ≡ a + c + b
 swap a b c = omega arith
 
-summed-swap : (r s t : Report) → summed (summed r s) t ≡ summed (summed r t) s
+pub summed-swap : (r s t : Report) → summed (summed r s) t ≡ summed (summed r t) s
 summed-swap r s t = λ i.
     record {
       encodings = swap (r .encodings) (s .encodings) (t .encodings) i;
