@@ -8,6 +8,7 @@ use mathlib.Core.List.{List, [], _∷_, _++_}
 use lib.ListN.{length, getD, take, set, length-append, length-take}
 use lib.Seq.{sets, length-sets, take-suc, take-all}
 use Rattle.lists.proofs.Sets.{sets-append}
+use Rattle.lists.proofs.Written.{taken-back}
 use Rattle.listing_text.specs.Contracts.{WroteText}
 
 pub wrote-then : {xs ys out₀ out₁ out₂ : List ℕ} {at next last : ℕ} → WroteText xs out₀ at next out₁ → WroteText ys out₁ next last out₂ → WroteText (xs ++ ys) out₀ at last out₂
@@ -33,3 +34,9 @@ wrote-as {xs} {ys} {out} {out′} {at} {next} e w = subst (λ (t : List ℕ). Wr
 -- what is written leaves the length
 pub wrote-long : {xs out out′ : List ℕ} {at next : ℕ} → WroteText xs out at next out′ → length out′ ≡ length out
 wrote-long {xs} {out} {out′} {at} {next} w = ap length (w .put) ∙ length-sets out at xs
+
+-- what was written at the front is read there
+pub wrote-front : {xs out out′ : List ℕ} {next : ℕ} → WroteText xs out 0 next out′ → length xs ≤ length out → take next out′ ≡ xs
+wrote-front {xs} {out} {out′} {next} w h =
+    let long : length xs ≡ next = omega (arith, w .ends) in
+    ap (take next) (w .put) ∙ taken-back out xs next h long

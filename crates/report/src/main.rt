@@ -4,13 +4,18 @@
 // What stands in the input is told by `report_input` and `report_held`, whatever the pieces in which it is read, and what is printed
 // are bytes of `report_lines`. `input` reads and `output` writes. After a read that failed nothing is printed: standard error has
 // a line.
+ghost use mathlib.Core.Path.{_≡_};
 ghost use Prim.Native.Nat.{_<_};
 ghost use lib.ListN.{take as List·take};
 ghost use Rattle.io.specs.Counts.{Counts};
 ghost use Rattle.report_held.specs.Contracts.{LentStores, Partial};
+ghost use Rattle.output.specs.Contracts.{WritesBytes};
+ghost use Rattle.report.specs.Turns.{turnsAfter};
 ghost use Rattle.report_input.specs.Contracts.{Feeds};
+ghost use Rattle.report_lines.specs.Lines.{answerLines};
 use input_lines::PIECE;
 use input_lines::Unread;
+use output::Written;
 use report_held::Held;
 use report_lines::ROOM;
 use report_stored::MOST;
@@ -34,7 +39,7 @@ fn report_all(piece: &mut [u8; PIECE], batch: &mut [u8], numbers: &mut [u32])
     let mut turns = u64::MAX;
     while turns > 0 {
         unread = input::read_piece(piece);
-        held = take(piece, unread.end, held, batch, numbers);
+        held = take(piece, unread, held, batch, numbers);
         turns = turns_left(turns, unread, held);
     }
     if !unread.failed {
@@ -42,34 +47,34 @@ fn report_all(piece: &mut [u8; PIECE], batch: &mut [u8], numbers: &mut [u32])
     }
 }
 
-// Takes what was read: the first bytes of a piece.
-fn take(piece: &[u8], count: usize, held: Held, batch: &mut [u8], numbers: &mut [u32]) -> Held
-    requires { ⌜ Counts count (now piece) ⌝ }
+// Takes what was read of a piece.
+fn take(piece: &[u8], unread: Unread, held: Held, batch: &mut [u8], numbers: &mut [u32]) -> Held
+    requires { ⌜ Counts (unread .end) (now piece) ⌝ }
     requires { ⌜ LentStores (now batch) (now numbers) ⌝ }
     requires { ⌜ Partial (now batch) (held .bytes) ⌝ }
-    ensures { λ r. ⌜ Feeds (List·take count (now (piece .entry))) held (now (batch .entry)) r (now (batch .exit)) ⌝ }
+    ensures { λ r. ⌜ Feeds (List·take (unread .end) (now (piece .entry))) held (now (batch .entry)) r (now (batch .exit)) ⌝ }
 {
-    report_input::feed(&piece[..count], held, batch, numbers)
+    let end = unread.end;
+    report_input::feed(&piece[..end], held, batch, numbers)
 }
 
-// How many turns are left: none once the input has ended or is refused, whatever follows.
+// How many turns are left: none once the input is refused, whatever follows, or has ended.
 fn turns_left(turns: u64, unread: Unread, held: Held) -> u64
     requires { ⌜ 0 < turns ⌝ }
-    ensures { λ r. ⌜ r < turns ⌝ }
+    ensures { λ r. ⌜ r ≡ turnsAfter turns unread (held .report) ⌝ }
 {
     let report = held.report;
     let Added::Done(_) = report else {
         return 0;
     };
-    if !unread.open {
-        return 0;
-    }
-    turns - 1
+    if unread.open { turns - 1 } else { 0 }
 }
 
 // Prints a report, or the number of a refusal.
-fn print_answer(answer: Added) {
+fn print_answer(answer: Added) -> Written
+    ensures { λ r. ⌜ WritesBytes (answerLines answer) r ⌝ }
+{
     let mut out = [0u8; ROOM];
     let count = report_lines::write_answer(answer, &mut out);
-    output::print(&out[..count]);
+    output::print(&out[..count])
 }

@@ -1,9 +1,11 @@
--- `print_answer` is safe: no answer is longer than the room for it. Assumes nothing.
-use mathlib.Core.Path.{sym}
-use Prim.Native.Nat.{_≤_}
+-- `print_answer` meets its contract: what is written is the answer, which is no longer than the room for it. Assumes nothing.
+use mathlib.Core.Path.{sym, subst}
+use mathlib.Core.List.{List}
+use Prim.Native.Nat.{ℕ, _≤_}
 use lib.ListN.{length}
 use lib.Seq.{length-take-le}
-use Rattle.listing_text.proofs.Wrote.{wrote-long}
+use Rattle.listing_text.proofs.Wrote.{wrote-long, wrote-front}
+use Rattle.output.specs.Contracts.{WritesBytes}
 use Rattle.report_lines.proofs.Lines.{answer-few}
 use native.Mathlib.Omega.{arith}
 use borrow.Author.Needs.{needs}
@@ -26,7 +28,9 @@ print-requires : tie.Need-print-requires
 print-requires c κs = search needs
 
 returns : tie.Need-returns
-returns c = search needs
+returns c =
+    let w = c .before .before in
+    subst (λ (bytes : List ℕ). WritesBytes bytes (c .print .result)) (wrote-front (w .write-answer .ensures) (omega (arith, answer-few (w .before .before .args .answer)))) (c .print .ensures)
 
 pub print-answer-spec : {M : Type 1} → statement M
 print-answer-spec =

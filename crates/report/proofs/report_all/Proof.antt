@@ -5,11 +5,11 @@ use mathlib.Core.Logic.{inl}
 use lib.ListN.{length}
 use Rattle.report_held.specs.Contracts.{LentStores, Partial}
 use Rattle.report_held.proofs.Settling.{partial-inside}
+use Rattle.report.proofs.Turns.{turns-fewer}
 use borrow.Author.Needs.{needs}
 use native.Mathlib.Omega.{arith}
 use Rattle.report.proofs.report_all.Statement.{statement}
 use Rattle.report.proofs.report_all.Tie as tie
-use Rattle.report_held.proofs.start.Reads as start-reads′
 
 abbrev Inv-loop : tie.InvT-loop
 Inv-loop piece₀ batch₀ numbers₀ held₀ unread₀ turns₀ piece batch numbers held unread turns = Partial batch (held .bytes) × (length batch ≡ length batch₀) × (length numbers ≡ length numbers₀)
@@ -45,7 +45,10 @@ turns-left-requires : tie.Need-turns-left-requires Inv-loop μ-loop
 turns-left-requires c κs = search needs
 
 loop-less : tie.Need-loop-less Inv-loop μ-loop
-loop-less c = c .turns-left .ensures
+loop-less c =
+    let t = c .before .before .before .before .before in
+    let r = t .before .before .before .before .before in
+    rw (c .turns-left .ensures) (turns-fewer _ (r .read-piece .result) (t .take .result .report) (r .before .before .loop-test .taken))
 
 loop-again : tie.Need-loop-again Inv-loop μ-loop
 loop-again c =
