@@ -6,7 +6,6 @@ use mathlib.Core.Logic.{_⊎_, ⊎-elim}
 use Prim.Native.Nat.{ℕ, suc, _+_, _-_, _*_, _/_, _≤_, _<_, min}
 use native.Mathlib.Nat.{suc-mul, zero-mul, mul-le-mul-right, div-mul-le-self, lt-div-mul-add, div-lt-iff-lt-mul}
 use native.Mathlib.Omega.{arith}
-use mathlib.Core.List.{List, [], _∷_}
 use lib.ListN.{length, getD}
 use Rattle.lists.specs.Lists.{All}
 use Rattle.cut_plan.specs.Cut.{bounds, windowsOf, Cuts, ceiling, countOf, seenFrom, windowAt}
@@ -14,6 +13,7 @@ use Rattle.cut_plan.specs.declared.Direction.{Direction}
 use Rattle.cut_plan.specs.declared.Direction.the-variants.{Left, Right}
 use Rattle.record.specs.declared.Bounds.{Bounds}
 use Rattle.cut_plan.proofs.Ceiling.{ceiling-reaches, ceiling-close, ceiling-least}
+use Rattle.lists.proofs.All.{all-places}
 use Rattle.lists.proofs.Numbers.{either}
 use Rattle.cut_plan.proofs.Windows.{window-cut, windows-count, window-at}
 
@@ -23,11 +23,13 @@ pub record Sized (rows max stride : ℕ) (b : Bounds) : Type 0 where
   pub above-stride : b .start + stride < b .end
   pub within-max : b .end ≤ b .start + max
 
--- the rows that neighbours share, and how far the second stands from the first, seen from the side that is kept
-abbrev pub shared : Direction → Bounds → Bounds → ℕ
-shared Right b c = b .end - c .start
-shared Left b c = c .end - b .start
+-- c is the next after b, seen from the side that is kept, and shares `stride` rows with it: no difference of numbers, which
+-- would be 0 over a gap too
+abbrev pub Shares : ℕ → Direction → Bounds → Bounds → Type 0
+Shares stride Right b c = c .start + stride ≡ b .end
+Shares stride Left b c = b .start + stride ≡ c .end
 
+-- how far it stands from it
 abbrev pub moved : Direction → Bounds → Bounds → ℕ
 moved Right b c = c .start - b .start
 moved Left b c = b .end - c .end
@@ -79,12 +81,9 @@ module _ {rows max stride : ℕ} (h : Cuts rows max stride) where
       go Right e = omega (arith, suc-mul i (max - stride))
       go Left e = omega (arith, suc-mul i (max - stride))
 
-  pub window-shared : (d : Direction) (i : ℕ) → i < last → shared d (windowAt rows max stride d i) (windowAt rows max stride d (suc i)) ≡ stride
-  window-shared d i k = go d (starts-below (suc i) k)
-    where
-      go : (d : Direction) → suc i * (max - stride) + stride < rows → shared d (windowAt rows max stride d i) (windowAt rows max stride d (suc i)) ≡ stride
-      go Right e = omega (arith, suc-mul i (max - stride), h .less)
-      go Left e = omega (arith, suc-mul i (max - stride), h .less)
+  pub window-shared : (d : Direction) (i : ℕ) → i < last → Shares stride d (windowAt rows max stride d i) (windowAt rows max stride d (suc i))
+  window-shared Right i k = omega (arith, window-moved Right i k, window-full Right i k, h .less)
+  window-shared Left i k = omega (arith, window-moved Left i k, window-full Left i k, h .less)
 
   -- every row is in a window
   covered : (k : ℕ) → k < rows → (i : ℕ) × (i < countOf rows max stride) × Holds (windowAt rows max stride Right i) k
@@ -126,12 +125,8 @@ module _ {rows max stride i : ℕ} (n : Numbers rows max stride i) where
 
 -- ---- All windows at once
 
-all-at : {A : Type 0} (M : A → Type 0) (d : A) (l : List A) → ((i : ℕ) → i < length l → M (getD l i d)) → All M l
-all-at M d [] h = tt
-all-at M d (x ∷ l) h = (h 0 (omega arith), all-at M d l (λ i k. h (suc i) (omega arith)))
-
 pub windows-sized : {rows max stride : ℕ} → Cuts rows max stride → (d : Direction) → All (Sized rows max stride) (windowsOf rows max stride d)
 windows-sized {rows} {max} {stride} h d =
-    all-at (Sized rows max stride) (bounds 0 0) (windowsOf rows max stride d) λ i k.
+    all-places (Sized rows max stride) (bounds 0 0) (windowsOf rows max stride d) λ i k.
     let m : i < countOf rows max stride = omega (arith, windows-count h d) in
     subst (Sized rows max stride) (sym (window-at h d i (bounds 0 0) m)) (window-sized h d i m)
