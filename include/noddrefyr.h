@@ -154,8 +154,8 @@ uint32_t noddrefyr_text(
     const uint8_t *added, size_t added_len,
     uint32_t answer[4]);
 
-/* The first offset start and the last offset end of a node, numbered through the whole batch: found or not, start, end.
-   Refused with 1. */
+/* The least offset start and the greatest offset end of a node over its own rows with special mask 0, numbered through the
+   whole batch: found or not, start, end. Refused with 1. */
 uint32_t noddrefyr_span(
     const uint32_t *nodes, size_t nodes_len,
     const uint32_t *rows, size_t rows_len,

@@ -135,6 +135,21 @@ pub fn all_texts(visit: &mut impl FnMut(&Batch)) {
     }
 }
 
+/// Every node of up to three rows over special masks and offsets of 0 to 2. Its window ends after all of them, so that a span
+/// that takes in the window's row is another.
+pub fn all_spans(visit: &mut impl FnMut(&Batch)) {
+    for rows in 0..=3u32 {
+        for code in 0..27u32.pow(rows) {
+            let mut b = exact(&[(rows, 1), (1, 0)]);
+            for (i, row) in b.rows.chunks_mut(ROW).take(rows as usize).enumerate() {
+                let numbers = code / 27u32.pow(i as u32) % 27;
+                row[7..].copy_from_slice(&[numbers / 9, numbers / 3 % 3, numbers % 3, code % 2]);
+            }
+            visit(&b);
+        }
+    }
+}
+
 /// n nodes, each the only window of the one before.
 pub fn chain(n: usize) -> Vec<(u32, u32)> {
     (0..n).map(|i| (1, (i + 1 < n) as u32)).collect()
@@ -201,6 +216,31 @@ pub fn random_one(r: &mut Rng, i: u64) -> Batch {
 pub fn random_large(r: &mut Rng, i: u64) -> Batch {
     let (encodings, levels) = (1 + r.below(6), 1 + i % 16);
     random_batch(r, encodings, Size { levels, windows: 1 + 16 / (levels * levels), rows: 12, offset: 1 << 32 })
+}
+
+/// The batch with other offsets and special masks, by a kind for each node. So the spans of windows and neighbours are wider
+/// than many a node's own, and some nodes have rows but no span.
+pub fn with_free_spans(r: &mut Rng, mut b: Batch) -> Batch {
+    let mut rows = b.rows.chunks_mut(ROW);
+    for node in b.nodes.chunks(NODE) {
+        let kind = r.below(4);
+        rows.by_ref().take(node[0] as usize).for_each(|row| row[7..10].copy_from_slice(&free_span(r, kind)));
+    }
+    b
+}
+
+/// The offsets and the special mask of a row. Offsets lie between 20 and 39 for kind 0, at the ends of u32 for kind 1, and
+/// in either place for the others; masks are of all sorts, but never 0 for kind 3.
+fn free_span(r: &mut Rng, kind: u64) -> [u32; 3] {
+    const ENDS: [u32; 4] = [0, 1, u32::MAX - 1, u32::MAX];
+    const MASKS: [u32; 6] = [0, 0, 0, 1, 2, u32::MAX];
+    let mut offset = || {
+        let inside = kind == 0 || (kind != 1 && r.below(2) == 0);
+        if inside { 20 + r.small(20) } else { ENDS[r.below(4) as usize] }
+    };
+    let (start, end) = (offset(), offset());
+    let masks = if kind == 3 { &MASKS[3..] } else { &MASKS[..] };
+    [start, end, masks[r.below(masks.len() as u64) as usize]]
 }
 
 /// The numbers that a number is changed to.

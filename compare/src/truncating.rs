@@ -19,14 +19,15 @@ pub const OPERATION: Operation = Operation {
 };
 
 /// How an encoding is cut.
-#[derive(Clone, Copy)]
-struct Cut {
-    max: u32,
-    stride: u32,
-    left: bool,
+#[derive(Clone, Copy, Debug)]
+pub struct Cut {
+    pub max: u32,
+    pub stride: u32,
+    pub left: bool,
 }
 
-fn truncated(mut e: Encoding, cut: Cut) -> Encoding {
+/// What the Rust cuts it to. It panics for a stride not below a max that cuts rows off.
+pub fn truncated(mut e: Encoding, cut: Cut) -> Encoding {
     let direction = if cut.left { TruncationDirection::Left } else { TruncationDirection::Right };
     e.truncate(cut.max as usize, cut.stride as usize, direction);
     e

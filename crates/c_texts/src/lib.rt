@@ -44,8 +44,8 @@ pub extern "C" fn noddrefyr_text(
     }
 }
 
-// The first offset start and the last offset end of a node, numbered through the whole batch: found or not, start, end.
-// Refused with 1.
+// The least offset start and the greatest offset end of a node over its own rows with special mask 0, numbered through the
+// whole batch: found or not, start, end. Refused with 1.
 #[no_mangle]
 pub extern "C" fn noddrefyr_span(
     nodes: &[u32],

@@ -1,61 +1,42 @@
 -- The span of a node: what is answered, by the numbers that are stored; and what a user leans on.
 -- Assumes nothing.
-use mathlib.Core.Path.{_≡_, refl, sym, ap, _∙_}
-use Prim.Native.Nat.{ℕ, suc, _+_, _-_, _*_, _≤_, _<_}
+use mathlib.Core.Path.{_≡_, refl, sym, ap, ap₂, _∙_}
+use mathlib.Core.Bool.{true, false, false≢true}
+use mathlib.Core.Option.{Option, none as nothing, some}
+use Prim.Native.Nat.{ℕ, _+_, _*_, _≤_, _<_}
 use native.Mathlib.Numerals.{add-one}
 use native.Mathlib.Omega.{arith}
-use mathlib.Core.List.{List, [], _∷_}
-use lib.ListN.{length, getD}
+use mathlib.Core.List.{List}
+use lib.ListN.{length, getD, drop}
 use Rattle.record.specs.Tree.{Row, Forest, Encoding, empty}
-use Rattle.record.specs.Flat.{rowWidth, nodeWidth, rowNumbers, rowAt}
+use Rattle.record.specs.Flat.{rowWidth, nodeWidth, rowAt}
 use Rattle.record.specs.WellFormed.{Stores}
-use Rattle.record.specs.Read.{Reading, holds, read, ofAny}
+use Rattle.record.specs.Standing.{RowsAt}
+use Rattle.record.specs.Read.{Reading, holds, read, several, ofAny}
 use Rattle.record.specs.Walk.{allEncodings}
 use Rattle.record.specs.declared.Refusal.the-variants.{MalformedRecord}
-use Rattle.record.specs.declared.Place.{Place}
-use Rattle.record.proofs.Standing.{rows-at}
+use Rattle.record.proofs.Flat.{row-stored, several-back}
 use Rattle.record_check.specs.Answers.{shapeOf}
 use Rattle.record_check.specs.declared.Shape.the-variants.{Malformed}
-use Rattle.lookup_texts.specs.NodeSpan.{lastOf, spanOf, spanAnswer}
-use Rattle.lookup_texts.specs.Contracts.{rowsBefore, SpanFrom}
-use Rattle.lookup_texts.specs.declared.SpanAnswer.{SpanAnswer}
+use Rattle.record_check.proofs.Checked.{none-of, any-of}
+use Rattle.lookup_spans.specs.Spans.{Span, spanOf}
+use Rattle.lookup_spans.specs.Seen.{seenOf}
+use Rattle.lookup_spans.specs.declared.Seen.{Seen}
+use Rattle.lookup_texts.specs.NodeSpan.{spanTold, spanAnswer}
+use Rattle.lookup_texts.specs.Contracts.{rowsBefore}
 use Rattle.lookup_texts.specs.declared.SpanAnswer.the-variants.{Refused, Nothing, Found}
 use Rattle.lookup_texts.proofs.Numbered.{numbered-in, numbered-past}
 use Rattle.lookup_texts.proofs.Nodes.{nodes-long, node-size, node-rows, node-rows-within}
-use Rattle.record_check.proofs.Checked.{none-of, any-of}
 
-blank : Row
-blank = rowAt []
+-- ---- What was seen, as an answer
 
--- ---- The span of some rows
+told-found : {seen : Seen} (s : Option Span) → seen ≡ seenOf s → seen .found ≡ true → Found (record { 0 = seen .start }) (record { 0 = seen .end }) ≡ spanTold s
+told-found nothing e t = absurd (false≢true (sym (ap (λ (x : Seen). x .found) e) ∙ t))
+told-found (some s) e t = ap (λ (x : Seen). Found (record { 0 = x .start }) (record { 0 = x .end })) e
 
-last-is : (r : Row) (rs : List Row) (d : Row) → lastOf r rs ≡ getD (r ∷ rs) (length rs) d
-last-is r [] d = refl
-last-is r (s ∷ rs) d = last-is s rs d
-
-pub span-none : spanOf [] ≡ Nothing
-unfolding spanOf
-span-none = refl
-
-pub span-some : (own : List Row) (n : ℕ) (d : Row) → length own ≡ suc n → spanOf own ≡ Found (record { 0 = getD own 0 d .offset-start }) (record { 0 = getD own n d .offset-end })
-unfolding spanOf
-span-some [] n d e = absurd (omega arith)
-span-some (r ∷ rs) n d e =
-    let l : length rs ≡ n = omega arith in
-    ap (λ (t : Row). Found (record { 0 = r .offset-start }) (record { 0 = t .offset-end })) (last-is r rs d ∙ ap (λ (m : ℕ). getD (r ∷ rs) m d) l)
-
--- the span by the stored numbers of the first of the rows and of the last
-pub span-stored : (rows : List ℕ) (first count : ℕ) → 0 < count → SpanFrom rows first count (Found (record { 0 = getD rows (first * rowWidth + 7) 0 }) (record { 0 = getD rows ((first + count - 1) * rowWidth + 8) 0 }))
-unfolding rowNumbers
-span-stored rows first count p own h e =
-    let n : length own ≡ suc (count - 1) = omega arith in
-    let a : first * rowWidth + 7 ≡ first * rowWidth + (0 * rowWidth + 7) = omega arith in
-    let b : (first + count - 1) * rowWidth + 8 ≡ first * rowWidth + ((count - 1) * rowWidth + 8) = omega arith in
-    rw (span-some own (count - 1) blank n, a, b, rows-at h 0 7 blank (omega arith) (omega arith), rows-at h (count - 1) 8 blank (omega arith) (omega arith))
-
-pub span-empty : (rows : List ℕ) (first count : ℕ) → count ≡ 0 → SpanFrom rows first count Nothing
-span-empty rows first count z [] h e = sym span-none
-span-empty rows first count z (r ∷ own) h e = absurd (omega arith)
+told-nothing : {seen : Seen} (s : Option Span) → seen ≡ seenOf s → seen .found ≡ false → Nothing ≡ spanTold s
+told-nothing nothing e t = refl
+told-nothing (some s) e t = absurd (false≢true (sym t ∙ ap (λ (x : Seen). x .found) e))
 
 -- ---- The rows before
 
@@ -73,10 +54,14 @@ pub span-malformed : (r : Reading) (k : ℕ) → shapeOf r ≡ Malformed → spa
 unfolding spanAnswer
 span-malformed r k e = none-of _ _ r e
 
+-- the rows that stand from j on
+rows-there : {rows : List ℕ} {j count : ℕ} {own : List Row} → RowsAt rows j own → count ≡ length own → several rowAt rowWidth count (drop j rows) ≡ own
+rows-there {rows} {j} {count} {own} h e = ap₂ (several rowAt rowWidth) e (h .is) ∙ several-back row-stored own (h .rest)
+
 module _ {nodes rows : List ℕ} {f : Forest} (s : Stores nodes rows f) (k : ℕ) where
   pub span-past : length nodes ≤ k * nodeWidth → spanAnswer (read nodes rows) k ≡ Nothing
   unfolding spanAnswer
-  span-past h = any-of _ _ s ∙ numbered-past Nothing (λ (E : Encoding). spanOf (E .rows)) (allEncodings f) k (omega (arith, nodes-long s))
+  span-past h = any-of _ _ s ∙ numbered-past Nothing (λ (E : Encoding). spanTold (spanOf (E .rows))) (allEncodings f) k (omega (arith, nodes-long s))
 
   module _ (h : k * nodeWidth < length nodes) where
     -- a node's own rows lie within the rows
@@ -85,20 +70,28 @@ module _ {nodes rows : List ℕ} {f : Forest} (s : Stores nodes rows f) (k : ℕ
         let l : k < length (allEncodings f) = omega (arith, nodes-long s) in
         rw (node-size s k l) (node-rows-within s k l)
 
-    -- the span of the rows that stand after those of the nodes before
-    pub span-there : (r : SpanAnswer) (first count : ℕ) → first ≡ rowsBefore nodes k → count ≡ getD nodes (k * nodeWidth) 0 → SpanFrom rows first count r → r ≡ spanAnswer (read nodes rows) k
-    unfolding spanAnswer
-    span-there r first count ef ec own =
-        let l : k < length (allEncodings f) = omega (arith, nodes-long s) in
-        own (getD (allEncodings f) k empty .rows) (rw ef (node-rows s k l)) (sym (ec ∙ node-size s k l))
-        ∙ sym (any-of _ _ s ∙ numbered-in Nothing (λ (E : Encoding). spanOf (E .rows)) (allEncodings f) k empty l)
+    -- what was seen of the rows that stand after those of the nodes before
+    module _ {first count : ℕ} {seen : Seen} (ef : first ≡ rowsBefore nodes k) (ec : count ≡ getD nodes (k * nodeWidth) 0) (e : seen ≡ seenOf (spanOf (several rowAt rowWidth count (drop (first * rowWidth) rows)))) where
+      abbrev seenSpan : Option Span
+      seenSpan = spanOf (several rowAt rowWidth count (drop (first * rowWidth) rows))
+
+      span-here : spanTold seenSpan ≡ spanAnswer (read nodes rows) k
+      unfolding spanAnswer
+      span-here =
+          let l : k < length (allEncodings f) = omega (arith, nodes-long s) in
+          let own : several rowAt rowWidth count (drop (first * rowWidth) rows) ≡ getD (allEncodings f) k empty .rows = rows-there {rows = rows} {j = first * rowWidth} (rw ef (node-rows s k l)) (ec ∙ node-size s k l) in
+          ap (λ (R : List Row). spanTold (spanOf R)) own
+          ∙ sym (any-of _ _ s ∙ numbered-in Nothing (λ (E : Encoding). spanTold (spanOf (E .rows))) (allEncodings f) k empty l)
+
+      pub span-there : seen .found ≡ true → Found (record { 0 = seen .start }) (record { 0 = seen .end }) ≡ spanAnswer (read nodes rows) k
+      span-there t = told-found seenSpan e t ∙ span-here
+
+      pub span-missing : seen .found ≡ false → Nothing ≡ spanAnswer (read nodes rows) k
+      span-missing t = told-nothing seenSpan e t ∙ span-here
 
 -- ---- What a user leans on
 
--- a node that has rows has a span
-pub span-found : (f : Forest) (k : ℕ) → k < length (allEncodings f) → 0 < length (getD (allEncodings f) k empty .rows) → (start : Place) × (end : Place) × (spanAnswer (holds f) k ≡ Found start end)
+-- the answer for a node is the span of its own rows
+pub span-found : (f : Forest) (k : ℕ) → k < length (allEncodings f) → spanAnswer (holds f) k ≡ spanTold (spanOf (getD (allEncodings f) k empty .rows))
 unfolding spanAnswer ofAny
-span-found f k l p =
-    let R = getD (allEncodings f) k empty .rows in
-    let n : length R ≡ suc (length R - 1) = omega arith in
-    (_, _, numbered-in Nothing (λ (E : Encoding). spanOf (E .rows)) (allEncodings f) k empty l ∙ span-some R (length R - 1) blank n)
+span-found f k l = numbered-in Nothing (λ (E : Encoding). spanTold (spanOf (E .rows))) (allEncodings f) k empty l

@@ -1,4 +1,5 @@
--- Two encodings, the first with a window: texts and spans by computing, numbered depth first.
+-- Two encodings, the first with a window, and a log with a start and an end token: texts and spans by computing, numbered
+-- depth first.
 -- Assumes nothing.
 use mathlib.Core.Path.{_≡_, refl}
 use mathlib.Core.List.{List, [], _∷_}
@@ -10,7 +11,8 @@ use Rattle.record.specs.Walk.{allRows, allEncodings}
 use Rattle.record.specs.declared.Refusal.the-variants.{MalformedRecord, TextOutsidePool}
 use Rattle.lookup_texts.specs.Numbered.{numbered}
 use Rattle.lookup_texts.specs.RowText.{textOf, textAnswer, partOf}
-use Rattle.lookup_texts.specs.NodeSpan.{spanOf, spanAnswer}
+use Rattle.lookup_spans.specs.Spans.{spanOf}
+use Rattle.lookup_texts.specs.NodeSpan.{spanAnswer}
 use Rattle.lookup_texts.specs.declared.TextAnswer.the-variants.{Refused, Nothing, Found}
 use Rattle.lookup_texts.specs.declared.SpanAnswer.the-variants as span
 
@@ -72,3 +74,21 @@ empty-span = refl
 past-nodes : spanAnswer (holds batch) 3 ≡ span.Nothing
 unfolding row batch spanAnswer ofAny numbered allEncodings
 past-nodes = refl
+
+-- ---- Added rows
+
+masked : ℕ → ℕ → ℕ → Row
+masked mask from to = record { id = 0; type-id = 0; pool = 0; text-start = 0; text-length = 0; word-mark = 0; word = 0; offset-start = from; offset-end = to; special = mask; attention = 1 }
+
+-- a start token, four rows of which one has mask 2, an end token; and a window of a start and an end token alone
+log : Forest
+log = node (masked 1 0 0 ∷ masked 0 6 9 ∷ masked 0 4 7 ∷ masked 2 1 99 ∷ masked 0 5 8 ∷ masked 1 0 0 ∷ []) (replicate sequences absent) (node (masked 1 0 0 ∷ masked 1 0 0 ∷ []) (replicate sequences absent) none none) none
+
+-- its least start stands in its third row, its greatest end in its second
+log-span : spanAnswer (holds log) 0 ≡ span.Found (record { 0 = 4 }) (record { 0 = 9 })
+unfolding masked log spanAnswer spanOf ofAny numbered allEncodings
+log-span = refl
+
+added-span : spanAnswer (holds log) 1 ≡ span.Nothing
+unfolding masked log spanAnswer spanOf ofAny numbered allEncodings
+added-span = refl

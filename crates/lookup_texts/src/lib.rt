@@ -1,12 +1,12 @@
 // The text of a row and the span of a node, in a batch of any number of encodings. Rows and nodes are numbered through
 // the whole batch, windows included, depth first.
 ghost use mathlib.Core.Path.{_≡_};
-ghost use Prim.Native.Nat.{_+_, _*_, _≤_};
+ghost use Prim.Native.Nat.{_*_, _≤_};
 ghost use lib.ListN.{length};
-ghost use Rattle.lookup_texts.specs.Contracts.{rowsBefore, SpanFrom};
+ghost use Rattle.lookup_texts.specs.Contracts.{rowsBefore};
 ghost use Rattle.lookup_texts.specs.NodeSpan.{spanAnswer};
 ghost use Rattle.lookup_texts.specs.RowText.{poolOf, textAnswer, partOf};
-ghost use Rattle.record.specs.Flat.{rowWidth, nodeWidth};
+ghost use Rattle.record.specs.Flat.{nodeWidth};
 ghost use Rattle.record.specs.Read.{read};
 use record::Column;
 use record::Encoding;
@@ -22,7 +22,7 @@ pub enum TextAnswer {
     Found { pool: u32, start: u32, length: u32 },
 }
 
-// A node's first offset start and last offset end.
+// A node's least offset start and greatest offset end over its own rows with special mask 0.
 pub enum SpanAnswer {
     Refused(Refusal),
     Nothing,
@@ -87,7 +87,8 @@ pub fn text_part<'a>(
     }
 }
 
-// A node's first offset start and last offset end, nothing without rows or past the last node. Refused with 1.
+// A node's least offset start and greatest offset end over its own rows with special mask 0, nothing without such rows or
+// past the last node. Refused with 1.
 pub fn span(nodes: &[u32], rows: &[u32], node: u32) -> SpanAnswer
     ensures { λ r. ⌜ r ≡ spanAnswer (read (now (nodes .entry)) (now (rows .entry))) node ⌝ }
 {
@@ -100,7 +101,15 @@ pub fn span(nodes: &[u32], rows: &[u32], node: u32) -> SpanAnswer
         return SpanAnswer::Nothing;
     }
     let first = rows_before(nodes, node);
-    span_of(rows, first, lists::wide(nodes[at]))
+    let seen = lookup_spans::span_of(rows, first, lists::wide(nodes[at]));
+    if seen.found {
+        SpanAnswer::Found {
+            start: Place(seen.start),
+            end: Place(seen.end),
+        }
+    } else {
+        SpanAnswer::Nothing
+    }
 }
 
 // The number of rows of the nodes before this one, after which its own begin.
@@ -116,22 +125,6 @@ fn rows_before(nodes: &[u32], node: u32) -> usize
         i += 1;
     }
     count
-}
-
-// The span of the count rows from row number first on.
-fn span_of(rows: &[u32], first: usize, count: usize) -> SpanAnswer
-    requires { ⌜ (first + count) * rowWidth ≤ length (now rows) ⌝ }
-    ensures { λ r. ⌜ SpanFrom (now (rows .entry)) first count r ⌝ }
-{
-    if count == 0 {
-        return SpanAnswer::Nothing;
-    }
-    let start = first * Encoding::ROW_WIDTH;
-    let last = (first + count - 1) * Encoding::ROW_WIDTH;
-    SpanAnswer::Found {
-        start: Place(rows[start + Column::OFFSET_START]),
-        end: Place(rows[last + Column::OFFSET_END]),
-    }
 }
 
 // The length of the pool that holds a text.

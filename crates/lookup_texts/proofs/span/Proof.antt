@@ -6,7 +6,7 @@ use borrow.Author.Needs.{needs}
 use Rattle.record.specs.Tree.{Forest}
 use Rattle.record.specs.WellFormed.{Stores}
 use Rattle.record_check.proofs.Checked.{any-there}
-use Rattle.lookup_texts.proofs.NodeSpan.{own-rows-within, span-malformed, span-past, span-there}
+use Rattle.lookup_texts.proofs.NodeSpan.{own-rows-within, span-malformed, span-past, span-there, span-missing}
 use Rattle.lookup_texts.proofs.span.Statement.{statement}
 use Rattle.lookup_texts.proofs.span.Tie as tie
 
@@ -54,8 +54,15 @@ span-of-requires c κs =
 
 returns-3 : tie.Need-returns-3
 returns-3 c =
-    let e = c .before .before .before .before in
-    span-there (stored (e .before) .1) _ (e .if1 .left) _ _ _ (c .before .before .before .rows-before .ensures) (c .before .wide .ensures) (c .span-of .ensures)
+    let r = c .before in
+    let e = r .before .before .before .before in
+    span-there (stored (e .before) .1) _ (e .if1 .left) (r .before .before .before .rows-before .ensures) (r .before .wide .ensures) (r .span-of .ensures) (c .if2 .taken)
+
+returns-4 : tie.Need-returns-4
+returns-4 c =
+    let r = c .before in
+    let e = r .before .before .before .before in
+    span-missing (stored (e .before) .1) _ (e .if1 .left) (r .before .before .before .rows-before .ensures) (r .before .wide .ensures) (r .span-of .ensures) (c .if2 .left)
 
 pub span-spec : {M : Type 1} → statement M
 span-spec =
@@ -72,4 +79,5 @@ span-spec =
     shared-slice-read-wide
     wide-requires
     span-of-requires
-    returns-3)
+    returns-3
+    returns-4)
