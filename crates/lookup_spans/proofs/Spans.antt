@@ -1,7 +1,7 @@
 -- The least start and the greatest end of several spans: their order plays no part, nor does one that comes twice; and the
 -- span of rows put together or left off.
 -- Assumes nothing.
-use mathlib.Core.Path.{_≡_, refl, sym, ap, ap₂, _∙_}
+use mathlib.Core.Path.{_≡_, refl, sym, ap, ap₂, subst, _∙_}
 use mathlib.Core.Option.{Option, none as nothing, some}
 use Prim.Native.Nat.{ℕ}
 use native.Mathlib.Omega.{arith}
@@ -92,12 +92,11 @@ span-append R S =
     ap among (map-append f R S) ∙ among-append (map f R) (map f S)
 
 -- the first n rows, and all but the first n
+span-split : (n : ℕ) (R : List Row) → joint (spanOf (take n R)) (spanOf (drop n R)) ≡ spanOf R
+span-split n R = sym (span-append (take n R) (drop n R)) ∙ ap spanOf (take-append-drop n R)
+
 pub span-take : (n : ℕ) (R : List Row) → Within (spanOf (take n R)) (spanOf R)
-span-take n R =
-    let e : joint (spanOf (take n R)) (spanOf (drop n R)) ≡ spanOf R = sym (span-append (take n R) (drop n R)) ∙ ap spanOf (take-append-drop n R) in
-    ap (joint (spanOf (take n R))) (sym e) ∙ within-first (spanOf (take n R)) (spanOf (drop n R)) ∙ e
+span-take n R = subst (Within (spanOf (take n R))) (span-split n R) (within-first (spanOf (take n R)) (spanOf (drop n R)))
 
 pub span-drop : (n : ℕ) (R : List Row) → Within (spanOf (drop n R)) (spanOf R)
-span-drop n R =
-    let e : joint (spanOf (take n R)) (spanOf (drop n R)) ≡ spanOf R = sym (span-append (take n R) (drop n R)) ∙ ap spanOf (take-append-drop n R) in
-    ap (joint (spanOf (drop n R))) (sym e) ∙ within-second (spanOf (take n R)) (spanOf (drop n R)) ∙ e
+span-drop n R = subst (Within (spanOf (drop n R))) (span-split n R) (within-second (spanOf (take n R)) (spanOf (drop n R)))
