@@ -1,7 +1,7 @@
 // What is known before padding writes anything: the length, the rows of the result, whether the pad text lies in its pool.
 ghost use mathlib.Core.Path.{_≡_};
 ghost use Prim.Native.Nat.{min};
-ghost use Rattle.pad_length.specs.Rounding.{roundedUp, largestU64};
+ghost use Rattle.pad_length.specs.Rounding.{roundedUp, largestU64, RoundedLength};
 ghost use Rattle.pad_length.specs.Target.{longest, lengthBy, textInside, rowsWith};
 ghost use Rattle.record.specs.Passing.{NodesOf};
 ghost use Rattle.record.specs.Tree.{Forest};
@@ -14,13 +14,11 @@ pub enum PaddingStrategy {
     Fixed(u64),
 }
 
-// The largest number of 64 bits.
-const LARGEST: u64 = 18446744073709551615;
-
 // The least number not below the length that the multiple divides; the length itself for multiple 0. Where that number
 // does not fit 64 bits, the largest one that does: no record is as long as either.
 pub fn rounded_length(length: u64, multiple: u64) -> u64
     ensures { λ r. ⌜ r ≡ min (roundedUp length multiple) largestU64 ⌝ }
+    ensures least { λ r. ⌜ RoundedLength length multiple r ⌝ }
 {
     if multiple == 0 {
         return length;
@@ -30,10 +28,10 @@ pub fn rounded_length(length: u64, multiple: u64) -> u64
         return length;
     }
     let missing = multiple - over;
-    if missing <= LARGEST - length {
+    if missing <= u64::MAX - length {
         length + missing
     } else {
-        LARGEST
+        u64::MAX
     }
 }
 

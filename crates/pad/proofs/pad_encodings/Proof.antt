@@ -40,7 +40,7 @@ target : (c : tie.After-rounded-length) →
     c .rounded-length .result ≡ min (targetOf (At e .args .strategy) (At e .args .multiple) (stored e .0)) largestU64
 target c =
     let e = after-enum-told c in
-    c .rounded-length .ensures ∙ ap (λ (n : ℕ). min (roundedUp n (At e .args .multiple)) largestU64) (c .before .padding-length .ensures (stored e .0) (nodes-of (stored e .1)))
+    c .rounded-length .ensures .0 ∙ ap (λ (n : ℕ). min (roundedUp n (At e .args .multiple)) largestU64) (c .before .padding-length .ensures (stored e .0) (nodes-of (stored e .1)))
 
 check-batch-requires : tie.Need-check-batch-requires
 check-batch-requires c κs = search needs
