@@ -6,7 +6,7 @@ use native.Mathlib.Nat.{mul-div-cancel}
 use native.Mathlib.Omega.{arith}
 use mathlib.Core.List.{List}
 use lib.ListN.{length}
-use Rattle.record.specs.Tree.{Forest, none, node}
+use Rattle.record.specs.Tree.{Forest, none, node, tops}
 use Rattle.record.specs.Flat.{rowWidth, nodeWidth, flatNodes, flatRows}
 use Rattle.record.specs.WellFormed.{Stores, nodesIn, mostRows}
 use Rattle.record.specs.Outcome.{Room, refused, inRoom, Writes}
@@ -20,6 +20,7 @@ use Rattle.pad_length.specs.Target.{rowsWith}
 use Rattle.pad_write.specs.Contracts.{AskPadded, Filled}
 use Rattle.record.proofs.Passing.{nodes-of, nodes-come, nodes-left}
 use Rattle.pad_write.proofs.Laws.{padded-nodes, padded-rows, padded-fine, padded-well}
+use Rattle.pad_room.proofs.Limits.{long-refused, none-done}
 
 module _ {nodes rows : List ℕ} {f : Forest} (s : Stores nodes rows f) (target : ℕ) (token : PadToken) (d : Direction) (out out′ : List ℕ) where
   nodes-long : length nodes ≡ nodesIn f * nodeWidth
@@ -56,12 +57,12 @@ module _ {nodes rows : List ℕ} {f : Forest} (s : Stores nodes rows f) (target 
     where
       go : (y : Forest) → nodesIn y * nodeWidth ≡ 0 → Writes (inRoom out out′ (padded target token d y)) (Done 0 0) out out′ out out′
       go (node r q w x) z = absurd (omega arith)
-      go none z = writes-done none (in-room out out′ none (record { fits = record { few-nodes = omega arith; few-rows = omega arith; few-levels = omega arith }; nodes-fit = omega arith; rows-fit = omega arith })) (omega arith) (omega arith) refl refl refl
+      go none z = writes-done none (none-done target token d out out′) (omega arith) (omega arith) refl refl refl
 
   -- a target that no encoding can have
   pub stored-above : (length nodes ≡ 0 → ⊥) → mostRows < target → inRoom out out′ (padded target token d f) ≡ refused NoRoom
-  stored-above e h = stored-no-room (λ few n r. e (go f few nodes-long))
+  stored-above e h = long-refused target token d out out′ h f (go f nodes-long)
     where
-      go : (y : Forest) → rowsWith target y ≤ mostRows → length nodes ≡ nodesIn y * nodeWidth → length nodes ≡ 0
-      go none few l = omega arith
-      go (node r q w x) few l = absurd (omega arith)
+      go : (y : Forest) → length nodes ≡ nodesIn y * nodeWidth → 0 < tops y
+      go none l = absurd (e (omega arith))
+      go (node r q w x) l = omega arith
