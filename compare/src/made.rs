@@ -26,7 +26,7 @@ const PROGRAMS: [(&str, &[u32]); 11] = [
     ("replay_texts", &[14, 15, 17]),
     ("replay_encodings", &[5, 12, 13]),
     ("replay_cuts", &[16, 20]),
-    ("replay_pads", &[21, 22]),
+    ("replay_pads", &[21, 22, 31]),
     ("replay_joins", &[18]),
     ("replay_folds", &[19]),
     ("replay_templates", &[23, 24, 25]),

@@ -1,5 +1,5 @@
 //! Runs the proved library and the Rust on the same inputs. See ../run for the commands.
-//! A new operation is a module with an `Operation`, a line in `operations` and a safe wrapper in `ours`.
+//! A new operation is a module with an `Operation`, a line in `operations` and a safe wrapper in `ours`, or a program that calls it.
 //! A program of the repository is a module with a `Program`, and stands in `PROGRAMS`.
 mod bench;
 mod check_batch;
@@ -18,6 +18,7 @@ mod pairs;
 mod processing;
 mod report;
 mod reports;
+mod rounding;
 mod running;
 mod sequence_column;
 mod tables;
@@ -57,7 +58,7 @@ fn operations() -> Vec<Operation> {
     let mut all = vec![check_batch::OPERATION];
     all.extend(lookups::OPERATIONS);
     all.extend([sequence_column::OPERATION, making::FROM_TOKENS, making::SET_SEQUENCE_ID, texts::TEXT, texts::SPAN, truncating::OPERATION]);
-    all.extend([merging::MERGE_WITH, merging::MERGE, pairs::OPERATION, padding::PAD, padding::PAD_ENCODINGS]);
+    all.extend([merging::MERGE_WITH, merging::MERGE, pairs::OPERATION, padding::PAD, padding::PAD_ENCODINGS, rounding::OPERATION]);
     all.extend([templates::OPERATION, validating::VALIDATE, validating::COUNT_ADDED, processing::OPERATION]);
     all.extend([offsets::BYTES_TO_CHARS, offsets::CHARS_TO_BYTES]);
     all.extend([reports::REPORT_ADD, reports::REPORT_SHARE]);

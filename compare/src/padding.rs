@@ -1,11 +1,11 @@
 //! pad and pad_encodings against the Rust's: small trees in both directions, multiples, the limits of a result,
-//! lengths and multiples above 32 bits.
+//! lengths and multiples above 32 bits (`rounding` has the length that a batch is padded to).
 use crate::inputs::{self, exact};
 use crate::lookups::one;
 use crate::ours::{self, Lent, Lengths, Output, Pad, BEFORE};
 use crate::outputs::{output, outputs_around, stored};
 use crate::tally::{Line, Stored, Tally, LENT};
-use crate::{bench, wellformed, Operation};
+use crate::{bench, rounding, wellformed, Operation};
 use std::hint::black_box;
 use tokenizers::bridge::{from_batch, to_batch, Batch, MAX_NODES, MAX_ROWS, ROW};
 use tokenizers::utils::padding::{pad_encodings, PaddingDirection, PaddingParams, PaddingStrategy};
@@ -14,7 +14,7 @@ use tokenizers::Encoding;
 
 pub const PAD: Operation = Operation {
     name: "pad",
-    format: "21 nodes rows length id type text-start text-length left refusal nodes rows out-nodes out-rows (the pool has 8 bytes)",
+    format: "21 nodes rows length id type text-start text-length left refusal nodes rows out-nodes out-rows (the length as its low and its high 32 bits; the pool has 8 bytes)",
     compare: compare_one,
     store: store_one,
     bench: time_one,
@@ -22,7 +22,7 @@ pub const PAD: Operation = Operation {
 
 pub const PAD_ENCODINGS: Operation = Operation {
     name: "pad_encodings",
-    format: "22 nodes rows fixed length multiple id type text-start text-length left refusal nodes rows out-nodes out-rows (the pool has 8 bytes; fixed 1: the length given, 0: that of the longest)",
+    format: "22 nodes rows fixed length multiple id type text-start text-length left refusal nodes rows out-nodes out-rows (length and multiple as their low and their high 32 bits; the pool has 8 bytes; fixed 1: the length given, 0: that of the longest)",
     compare: compare_batch,
     store: store_batch,
     bench: time_batch,
@@ -75,11 +75,6 @@ fn random_length(r: &mut Rng, below: u64) -> u64 {
     }
 }
 
-/// A length as the number of a stored case, which has 32 bits; a case with a wider one is not stored.
-fn narrow(length: u64) -> u32 {
-    length as u32
-}
-
 // ---- One encoding
 
 fn result_one(b: &Batch, length: u64, pad: Pad, pool: usize) -> Result<Vec<Encoding>, u32> {
@@ -105,7 +100,7 @@ fn case_one(t: &mut Tally, b: &Batch, length: u64, pad: Pad, pool: usize, which:
 }
 
 fn line_one(b: &Batch, length: u64, pad: Pad, want: &Output) -> Line {
-    pad_line(Line::of(21).list(&b.nodes).list(&b.rows).number(narrow(length)), pad, want)
+    pad_line(Line::of(21).list(&b.nodes).list(&b.rows).wide(length), pad, want)
 }
 
 fn compare_one(t: &mut Tally, r: &mut Rng, count: u64) {
@@ -149,7 +144,7 @@ fn store_one(r: &mut Rng) -> Vec<Stored> {
     for i in 0..16u32 {
         let b = inputs::random_one(r, 3 * i as u64 + 1);
         let pad = Pad { id: 100 + i, type_id: i % 3, text_start: i % 9, text_length: i % 4, left: i % 2 == 1 };
-        let length = if i == 5 { u32::MAX as u64 } else { r.small(8) as u64 };
+        let length = [r.small(8) as u64, WIDE[i as usize % 8]][(i % 5 == 0) as usize];
         let result = result_one(&b, length, pad, 8);
         let (nodes, rows) = outputs_around(result.as_deref().map_err(|k| *k))[i as usize % 4];
         let want = output(result.as_deref().map_err(|k| *k), nodes, rows, LENT);
@@ -192,14 +187,9 @@ fn params(lengths: Lengths, pad: Pad) -> PaddingParams {
     }
 }
 
-/// The length that the Rust pads to, worked out beforehand, so that it is not asked for more rows than the limits.
+/// The length that a batch is padded to, worked out beforehand, so that the Rust is not asked for more rows than the limits.
 fn target(encodings: &[Encoding], lengths: Lengths) -> u128 {
-    let longest = encodings.iter().map(|e| e.len() as u128).max().unwrap_or(0);
-    let length = if lengths.fixed { lengths.length as u128 } else { longest };
-    match lengths.multiple as u128 {
-        0 => length,
-        multiple => length.div_ceil(multiple) * multiple,
-    }
+    rounding::target(&encodings.iter().map(Encoding::len).collect::<Vec<_>>(), lengths)
 }
 
 /// The Rust's answer. Multiple 0 is the Rust's `Some(0)` and its `None`, which have to agree.
@@ -227,7 +217,7 @@ fn result_batch(b: &Batch, lengths: Lengths, pad: Pad, pool: usize) -> Result<Ve
 }
 
 fn line_batch(b: &Batch, lengths: Lengths, pad: Pad, want: &Output) -> Line {
-    let line = Line::of(22).list(&b.nodes).list(&b.rows).number(lengths.fixed as u32).number(narrow(lengths.length)).number(narrow(lengths.multiple));
+    let line = Line::of(22).list(&b.nodes).list(&b.rows).number(lengths.fixed as u32).wide(lengths.length).wide(lengths.multiple);
     pad_line(line, pad, want)
 }
 
@@ -284,14 +274,22 @@ fn compare_batch(t: &mut Tally, r: &mut Rng, count: u64) {
 
 fn store_batch(r: &mut Rng) -> Vec<Stored> {
     let mut out = vec![];
+    let mut add = |b: &Batch, lengths: Lengths, pad: Pad, way: u32| {
+        let result = result_batch(b, lengths, pad, 8);
+        let (nodes, rows) = outputs_around(result.as_deref().map_err(|k| *k))[way as usize % 4];
+        let want = output(result.as_deref().map_err(|k| *k), nodes, rows, LENT);
+        out.push(Stored { what: format!("{lengths:?}"), line: line_batch(b, lengths, pad, &want) });
+    };
     for i in 0..16u32 {
         let b = random_batch(r, i as u64 % 4, Size { levels: i as u64 % 2, windows: 2, rows: 4, offset: 40 });
         let pad = Pad { id: 100 + i, type_id: i % 3, text_start: i % 9, text_length: i % 4, left: i % 2 == 1 };
-        let lengths = Lengths { fixed: i % 3 == 0, length: r.small(8) as u64, multiple: r.small(5) as u64 };
-        let result = result_batch(&b, lengths, pad, 8);
-        let (nodes, rows) = outputs_around(result.as_deref().map_err(|k| *k))[i as usize / 2 % 4];
-        let want = output(result.as_deref().map_err(|k| *k), nodes, rows, LENT);
-        out.push(Stored { what: format!("{lengths:?}"), line: line_batch(&b, lengths, pad, &want) });
+        let length = [r.small(8) as u64, WIDE[i as usize % 8]][(i % 6 == 3) as usize];
+        let multiple = [r.small(5) as u64, WIDE[i as usize / 2 % 8]][(i % 5 == 4) as usize];
+        add(&b, Lengths { fixed: i % 3 == 0, length, multiple }, pad, i / 2);
+    }
+    // no number of 64 bits is the rounded length
+    for shape in [vec![], vec![(0, 0)], vec![(3, 1), (2, 0)]] {
+        add(&exact(&shape), Lengths { fixed: true, length: u64::MAX, multiple: 2 }, PLAIN, 0);
     }
     out
 }
@@ -315,4 +313,18 @@ fn time_batch() {
     let (from, mut to) = (vec![1u32; rows], vec![0u32; rows]);
     let copy = bench::alone(|| to.copy_from_slice(black_box(&from)));
     bench::row("pad 64 encodings of mixed lengths", ours, "memory copy", copy, "of the result");
+}
+
+/// Nothing is padded, so that little but the check and the rounding is left.
+pub fn time_rounding() {
+    let b = exact(&[(8, 0)]);
+    let mut encodings = from_batch(&b.nodes, &b.rows);
+    for multiple in [0, 8] {
+        let lengths = Lengths { fixed: true, length: 8, multiple };
+        let (mut lent, pool) = (Lent::new(b.nodes.len(), b.rows.len()), [0; 8]);
+        let with = params(lengths, PLAIN);
+        let ours = || assert_eq!(lent.pad_encodings(black_box(&b), black_box(lengths), PLAIN, &pool), 0);
+        let (ours, rust) = bench::both(ours, || pad_encodings(black_box(&mut encodings), black_box(&with)).expect("no error"));
+        bench::row(&format!("pad 8 rows to 8, multiple {multiple}"), ours, "Rust", rust, "nothing to add");
+    }
 }

@@ -1,7 +1,7 @@
 //! report_add and report_share, which the Rust does not have, against a reading of request 03. What a batch counts is held to what
 //! the Rust's Encoding has of it.
 use crate::inputs::{self, batch, exact, large, small_batch, DAMAGES};
-use crate::tally::{Line, Stored, Tally};
+use crate::tally::{halves, Line, Stored, Tally};
 use crate::{bench, ours, wellformed, Operation};
 use std::hint::black_box;
 use std::mem;
@@ -89,11 +89,6 @@ pub fn added(report: &Report, nodes: &[u32], rows: &[u32]) -> Result<Report, u32
 }
 
 // ---- Cases of adding
-
-/// Each number as its low and its high 32 bits.
-fn halves(numbers: &[u64]) -> Vec<u32> {
-    numbers.iter().flat_map(|x| [*x as u32, (*x >> 32) as u32]).collect()
-}
 
 /// The refusal, 0 for none, and the report after it.
 type Told = (u32, Report);

@@ -5,6 +5,11 @@ use std::ops::Range;
 /// What each lent number of a stored case holds before the call, and after it where it is left alone.
 pub const LENT: u32 = 7;
 
+/// Numbers of 64 bits in a case, whose numbers have 32: each as its low and its high half.
+pub fn halves(numbers: &[u64]) -> Vec<u32> {
+    numbers.iter().flat_map(|x| [*x as u32, (*x >> 32) as u32]).collect()
+}
+
 /// A case as one line of decimal numbers: the operation, its inputs and the expected answers, a list as its length
 /// and then its numbers.
 #[derive(Clone)]
@@ -32,6 +37,11 @@ impl Line {
         self.last = self.numbers.len();
         self.numbers.push(number);
         self
+    }
+
+    /// A number of 64 bits.
+    pub fn wide(self, number: u64) -> Line {
+        halves(&[number]).iter().fold(self, |line, half| line.number(*half))
     }
 
     /// What a lent number is after the call, among the inputs.

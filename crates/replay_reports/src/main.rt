@@ -17,9 +17,6 @@ const REPORT_SHARE: u32 = 30;
 // How many halves a report has.
 const HALVES: usize = 12;
 
-// What one more in the high half is worth.
-const HALF: u64 = 0x1_0000_0000;
-
 // What stands in each lent number before a call, where it is not the case that says it.
 const BEFORE: u64 = 7;
 
@@ -99,18 +96,18 @@ fn report_add(nodes: &[u32], rows: &[u32], rest: &[u32]) -> Outcome {
 // Whether a case is, from a place on, a refusal and the halves of a report.
 fn same_report(refusal: u32, report: &[u64; 6], case: &[u32], at: usize) -> Outcome {
     let halves = [
-        low(report[0]),
-        high(report[0]),
-        low(report[1]),
-        high(report[1]),
-        low(report[2]),
-        high(report[2]),
-        low(report[3]),
-        high(report[3]),
-        low(report[4]),
-        high(report[4]),
-        low(report[5]),
-        high(report[5]),
+        replay_halves::low(report[0]),
+        replay_halves::high(report[0]),
+        replay_halves::low(report[1]),
+        replay_halves::high(report[1]),
+        replay_halves::low(report[2]),
+        replay_halves::high(report[2]),
+        replay_halves::low(report[3]),
+        replay_halves::high(report[3]),
+        replay_halves::low(report[4]),
+        replay_halves::high(report[4]),
+        replay_halves::low(report[5]),
+        replay_halves::high(report[5]),
     ];
     replay_answers::answered(refusal, &halves, case, at)
 }
@@ -129,38 +126,23 @@ fn report_share(report: &[u32], nothing: &[u32], rest: &[u32]) -> Outcome {
 }
 
 fn same_share(refusal: u32, share: &[u64; 2], case: &[u32]) -> Outcome {
-    let halves = [low(share[0]), high(share[0]), low(share[1]), high(share[1])];
+    let halves = [
+        replay_halves::low(share[0]),
+        replay_halves::high(share[0]),
+        replay_halves::low(share[1]),
+        replay_halves::high(share[1]),
+    ];
     replay_answers::answered_four(refusal, &halves, case, 0)
 }
 
 // The report of these halves.
 fn report_at(halves: &[u32]) -> [u64; 6] {
     [
-        number_at(halves, 0, 1),
-        number_at(halves, 2, 3),
-        number_at(halves, 4, 5),
-        number_at(halves, 6, 7),
-        number_at(halves, 8, 9),
-        number_at(halves, 10, 11),
+        replay_halves::number_at(halves, 0, 1),
+        replay_halves::number_at(halves, 2, 3),
+        replay_halves::number_at(halves, 4, 5),
+        replay_halves::number_at(halves, 6, 7),
+        replay_halves::number_at(halves, 8, 9),
+        replay_halves::number_at(halves, 10, 11),
     ]
-}
-
-// The number whose halves stand at two places.
-fn number_at(halves: &[u32], low: usize, high: usize) -> u64 {
-    number_of(
-        replay_cases::number_at(halves, low),
-        replay_cases::number_at(halves, high),
-    )
-}
-
-fn number_of(low: u32, high: u32) -> u64 {
-    low as u64 + high as u64 * HALF
-}
-
-fn low(number: u64) -> u32 {
-    (number % HALF) as u32
-}
-
-fn high(number: u64) -> u32 {
-    (number / HALF) as u32
 }
