@@ -63,7 +63,7 @@ fn rounded(length: u64, multiple: u64) -> u64 {
 // ---- Cases
 
 fn line(length: u64, multiple: u64) -> Line {
-    Line::of(31).list(&halves(&[length, multiple])).list(&[]).answer_list(&halves(&[rounded(length, multiple)]))
+    Line::of(31).list(&halves(&[length, multiple])).list(&[]).answer_wide(rounded(length, multiple))
 }
 
 /// One case for each pair, and one for what is printed after all of them.
@@ -83,7 +83,7 @@ fn cases(t: &mut Tally, pairs: &[(u64, u64)]) {
     t.case(told.last() == Some(&&counts[..]), || (format!("the counts are {:?}", told.last()), counts.clone()));
 }
 
-/// Numbers around the powers of 2, where a width or a sum could be passed.
+/// Numbers around the powers of 2, where a width or a sum could be passed, and some others.
 fn edges() -> Vec<u64> {
     let powers = [0, 1, 3, 8, 16, 31, 32, 33, 48, 62, 63].map(|bits| 1u64 << bits);
     let around = powers.into_iter().flat_map(|x| [x - 1, x, x + 1]);

@@ -15,7 +15,9 @@ pub fn halves(numbers: &[u64]) -> Vec<u32> {
 #[derive(Clone)]
 pub struct Line {
     numbers: Vec<u32>,
-    /// the places of the refusal and the lent numbers after it; a list may follow
+    /// 0 for none
+    refusal: u32,
+    /// the places of the refusal and the lent numbers after it, or of what is answered without one; a list may follow
     answer: Range<usize>,
     /// the places of lent numbers that stand among the inputs
     early: Vec<usize>,
@@ -25,7 +27,7 @@ pub struct Line {
 
 impl Line {
     pub fn of(operation: u32) -> Line {
-        Line { numbers: vec![operation], answer: 0..0, early: vec![], last: 0 }
+        Line { numbers: vec![operation], refusal: 0, answer: 0..0, early: vec![], last: 0 }
     }
 
     pub fn list(mut self, numbers: &[u32]) -> Line {
@@ -60,6 +62,15 @@ impl Line {
     pub fn answer_left(self, refusal: u32, left: &[u32]) -> Line {
         let start = self.numbers.len();
         let mut line = left.iter().fold(self.number(refusal), |line, x| line.number(*x));
+        line.refusal = refusal;
+        line.answer = start..line.numbers.len();
+        line
+    }
+
+    /// A number of 64 bits that is all the answer, with no refusal, as the list of its halves.
+    pub fn answer_wide(self, number: u64) -> Line {
+        let start = self.numbers.len() + 1;
+        let mut line = self.list(&halves(&[number]));
         line.answer = start..line.numbers.len();
         line
     }
@@ -72,14 +83,9 @@ impl Line {
         line
     }
 
-    /// Its refusal, 0 for none.
-    fn refusal(&self) -> u32 {
-        if self.answer.is_empty() { 0 } else { self.numbers[self.answer.start] }
-    }
-
     /// How many numbers other than 0 its answers have, none where it is refused.
     fn told(&self) -> usize {
-        if self.refusal() != 0 { 0 } else { self.numbers[self.answer.start..].iter().filter(|x| **x != 0).count() }
+        if self.refusal != 0 { 0 } else { self.numbers[self.answer.start..].iter().filter(|x| **x != 0).count() }
     }
 
     /// This line with another number in one of its answers, for each of them.
@@ -126,7 +132,7 @@ pub struct Stored {
 pub fn wrong(cases: &[Stored]) -> Vec<Wrong> {
     let lines = || cases.iter().map(|stored| &stored.line);
     let mut all = lines().max_by_key(|line| line.told()).expect("a stored case").wrong();
-    let at_fault = lines().find(|line| (19..=21).contains(&line.refusal()));
+    let at_fault = lines().find(|line| (19..=21).contains(&line.refusal));
     all.extend(at_fault.into_iter().flat_map(Line::changed).map(|(what, line, said)| (format!("a part at fault, {what}"), line, said)));
     all
 }

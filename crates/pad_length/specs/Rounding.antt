@@ -22,7 +22,8 @@ abbrev pub largestU64 : ℕ
 largestU64 = 18446744073709551615
 
 -- "The rounded length, a 64-bit number, is […] the least one not below the length that the multiple divides, or the length
--- itself for multiple 0", wherever there is one of 64 bits: 2 divides none from 2^64 - 1 on (`corner`)
+-- itself for multiple 0": wherever there is such a number m of 64 bits, which at length 2^64 - 1 and multiple 2 there is not
+-- (`corner`)
 pub record RoundedLength (length multiple n : ℕ) : Type 0 where
   pub least : 0 < multiple → (m : ℕ) → length ≤ m → Divides multiple m → m ≤ largestU64 → LeastMultiple length multiple n
   pub unrounded : multiple ≡ 0 → n ≡ length
