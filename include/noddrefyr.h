@@ -84,12 +84,13 @@ uint32_t noddrefyr_n_sequences(
     const uint32_t *rows, size_t rows_len,
     uint32_t answer[1]);
 
-/* The sequence that a row of one encoding is in: found or not, sequence. Refused with 1. */
+/* The sequence that a row of one encoding is in, and the row's place from the start of it: found or not, sequence, place.
+   Without ranges sequence 0 and the row's own number. Refused with 1. */
 uint32_t noddrefyr_token_to_sequence(
     const uint32_t *nodes, size_t nodes_len,
     const uint32_t *rows, size_t rows_len,
     uint32_t token,
-    uint32_t answer[2]);
+    uint32_t answer[3]);
 
 /* The mark and the sequence of each row of one encoding, written to out; written is the number of rows. Refused with 1, 2. */
 uint32_t noddrefyr_get_sequence_ids(
@@ -122,19 +123,21 @@ uint32_t noddrefyr_char_to_token(
     uint32_t sequence_id,
     uint32_t answer[2]);
 
-/* The sequence and the characters of a row of one encoding: found or not, sequence, start, end. Refused with 1. */
+/* The sequence of a row of one encoding, the row's place from the start of it, and the row's characters: found or not, sequence,
+   place, start, end. Refused with 1. */
 uint32_t noddrefyr_token_to_chars(
     const uint32_t *nodes, size_t nodes_len,
     const uint32_t *rows, size_t rows_len,
     uint32_t token,
-    uint32_t answer[4]);
+    uint32_t answer[5]);
 
-/* The sequence and the word of a row of one encoding: found or not, sequence, word. Refused with 1. */
+/* The sequence of a row of one encoding, the row's place from the start of it, and the row's word: found or not, sequence, place,
+   word. Refused with 1. */
 uint32_t noddrefyr_token_to_word(
     const uint32_t *nodes, size_t nodes_len,
     const uint32_t *rows, size_t rows_len,
     uint32_t token,
-    uint32_t answer[3]);
+    uint32_t answer[4]);
 
 /* The word that holds a character, in a sequence of one encoding: found or not, word. Refused with 1. */
 uint32_t noddrefyr_char_to_word(

@@ -68,6 +68,22 @@ pub fn all_ranges(visit: &mut impl FnMut(&Batch)) {
     }
 }
 
+/// Every two ranges of up to four rows, under every two ids.
+pub fn all_range_pairs(visit: &mut impl FnMut(&Batch)) {
+    for rows in 0..=4u32 {
+        let mut b = exact(&[(rows, 0)]);
+        let ranges: Vec<[u32; 3]> = (0..=rows).flat_map(|end| (0..=end).map(move |start| [1, start, end])).collect();
+        for (low, high) in (0..SEQUENCES).flat_map(|high| (0..high).map(move |low| (low, high))) {
+            for (first, second) in ranges.iter().flat_map(|first| ranges.iter().map(move |second| (first, second))) {
+                b.nodes[2..].fill(0);
+                b.nodes[2 + low * 3..][..3].copy_from_slice(first);
+                b.nodes[2 + high * 3..][..3].copy_from_slice(second);
+                visit(&b);
+            }
+        }
+    }
+}
+
 /// Every small pool, word mark and word in each row of two nodes.
 pub fn all_rows(visit: &mut impl FnMut(&Batch)) {
     for row in 0..4 {

@@ -1,5 +1,7 @@
-//! The lookups on one encoding against the Rust's. Each is one entry of LOOKUPS; what they share is here.
+//! The lookups on one encoding against the Rust's. Each is one entry of OPERATIONS; what they share is here.
 //! A batch that is malformed, or not of one encoding, must be refused with 1.
+//! Three of them also give the row's place in its sequence, which the Rust does not: that number is left out of the comparison
+//! with it, and compared with a second reading (`place`).
 use crate::inputs::{self, exact};
 use crate::ours::{self, Answer, BEFORE};
 use crate::tally::{Line, Stored, Tally};
@@ -25,8 +27,10 @@ pub struct Lookup {
     number: u32,
     asked: Asked,
     ours: fn(&Batch, [u32; 2]) -> Answer,
-    /// the Rust's answer as the lent numbers, a mark first where something may be absent
+    /// the Rust's answer as the lent numbers, a mark first where something may be absent, without the row's place
     rust: fn(&Encoding, [u32; 2]) -> Vec<u32>,
+    /// whether ours gives the row's place in its sequence too
+    placed: bool,
     /// the Rust's call and nothing else, for the clock
     timed: fn(&Encoding, [u32; 2]),
 }
@@ -43,6 +47,20 @@ fn smallest(e: &Encoding, row: usize, rust: usize) -> usize {
     holding.first().copied().unwrap_or(rust)
 }
 
+/// Where that place stands in an answer: after the mark and the sequence.
+const PLACE: usize = 2;
+
+/// The row's place in the sequence that was found: how many rows of the sequence's range lie before it, or its own number if
+/// there are no ranges; 0, as all numbers are, where nothing was found.
+fn place(e: &Encoding, row: u32, found: bool, id: u32) -> u32 {
+    let ranges = probe::ranges(e);
+    match ranges.into_iter().find(|(other, _)| *other == id as usize) {
+        _ if !found => 0,
+        None => row,
+        Some((_, range)) => range.take_while(|before| *before < row as usize).count() as u32,
+    }
+}
+
 pub const SEQUENCE_RANGE: Lookup = Lookup {
     number: 2,
     asked: Asked::Sequence,
@@ -51,15 +69,17 @@ pub const SEQUENCE_RANGE: Lookup = Lookup {
         let range = probe::sequence_range(e, id as usize);
         vec![range.start as u32, range.end as u32]
     },
+    placed: false,
     timed: |e, [id, _]| drop(black_box(probe::sequence_range(e, id as usize))),
 };
 pub const N_SEQUENCES: Lookup =
-    Lookup { number: 3, asked: Asked::Nothing, ours: |b, _| ours::n_sequences(b), rust: |e, _| vec![e.n_sequences() as u32], timed: |e, _| { black_box(e.n_sequences()); } };
+    Lookup { number: 3, asked: Asked::Nothing, ours: |b, _| ours::n_sequences(b), rust: |e, _| vec![e.n_sequences() as u32], placed: false, timed: |e, _| { black_box(e.n_sequences()); } };
 pub const TOKEN_TO_SEQUENCE: Lookup = Lookup {
     number: 4,
     asked: Asked::Token,
     ours: |b, [row, _]| ours::token_to_sequence(b, row),
     rust: |e, [row, _]| some(e.token_to_sequence(row as usize).map(|id| [smallest(e, row as usize, id)])),
+    placed: true,
     timed: |e, [row, _]| { black_box(e.token_to_sequence(row as usize)); },
 };
 pub const WORD_TO_TOKENS: Lookup = Lookup {
@@ -67,6 +87,7 @@ pub const WORD_TO_TOKENS: Lookup = Lookup {
     asked: Asked::WordInSequence,
     ours: |b, [word, id]| ours::word_to_tokens(b, word, id),
     rust: |e, [word, id]| some(e.word_to_tokens(word, id as usize).map(|(start, end)| [start, end])),
+    placed: false,
     timed: |e, [word, id]| { black_box(e.word_to_tokens(word, id as usize)); },
 };
 pub const WORD_TO_CHARS: Lookup = Lookup {
@@ -74,6 +95,7 @@ pub const WORD_TO_CHARS: Lookup = Lookup {
     asked: Asked::WordInSequence,
     ours: |b, [word, id]| ours::word_to_chars(b, word, id),
     rust: |e, [word, id]| some(e.word_to_chars(word, id as usize).map(|(start, end)| [start, end])),
+    placed: false,
     timed: |e, [word, id]| { black_box(e.word_to_chars(word, id as usize)); },
 };
 pub const CHAR_TO_TOKEN: Lookup = Lookup {
@@ -81,6 +103,7 @@ pub const CHAR_TO_TOKEN: Lookup = Lookup {
     asked: Asked::PlaceInSequence,
     ours: |b, [place, id]| ours::char_to_token(b, place, id),
     rust: |e, [place, id]| some(e.char_to_token(place as usize, id as usize).map(|row| [row])),
+    placed: false,
     timed: |e, [place, id]| { black_box(e.char_to_token(place as usize, id as usize)); },
 };
 pub const TOKEN_TO_CHARS: Lookup = Lookup {
@@ -88,6 +111,7 @@ pub const TOKEN_TO_CHARS: Lookup = Lookup {
     asked: Asked::Token,
     ours: |b, [row, _]| ours::token_to_chars(b, row),
     rust: |e, [row, _]| some(e.token_to_chars(row as usize).map(|(id, (start, end))| [smallest(e, row as usize, id), start, end])),
+    placed: true,
     timed: |e, [row, _]| { black_box(e.token_to_chars(row as usize)); },
 };
 pub const TOKEN_TO_WORD: Lookup = Lookup {
@@ -95,6 +119,7 @@ pub const TOKEN_TO_WORD: Lookup = Lookup {
     asked: Asked::Token,
     ours: |b, [row, _]| ours::token_to_word(b, row),
     rust: |e, [row, _]| some(e.token_to_word(row as usize).map(|(id, word)| [smallest(e, row as usize, id), word as usize])),
+    placed: true,
     timed: |e, [row, _]| { black_box(e.token_to_word(row as usize)); },
 };
 pub const CHAR_TO_WORD: Lookup = Lookup {
@@ -102,6 +127,7 @@ pub const CHAR_TO_WORD: Lookup = Lookup {
     asked: Asked::PlaceInSequence,
     ours: |b, [place, id]| ours::char_to_word(b, place, id),
     rust: |e, [place, id]| some(e.char_to_word(place as usize, id as usize).map(|word| [word as usize])),
+    placed: false,
     timed: |e, [place, id]| { black_box(e.char_to_word(place as usize, id as usize)); },
 };
 
@@ -121,12 +147,12 @@ macro_rules! operation {
 pub const OPERATIONS: [Operation; 9] = [
     operation!(SEQUENCE_RANGE, "sequence_range", "2 nodes rows sequence refusal start end"),
     operation!(N_SEQUENCES, "n_sequences", "3 nodes rows refusal count"),
-    operation!(TOKEN_TO_SEQUENCE, "token_to_sequence", "4 nodes rows token refusal found sequence"),
+    operation!(TOKEN_TO_SEQUENCE, "token_to_sequence", "4 nodes rows token refusal found sequence place"),
     operation!(WORD_TO_TOKENS, "word_to_tokens", "6 nodes rows word sequence refusal found start end"),
     operation!(WORD_TO_CHARS, "word_to_chars", "7 nodes rows word sequence refusal found start end"),
     operation!(CHAR_TO_TOKEN, "char_to_token", "8 nodes rows place sequence refusal found row"),
-    operation!(TOKEN_TO_CHARS, "token_to_chars", "9 nodes rows token refusal found sequence start end"),
-    operation!(TOKEN_TO_WORD, "token_to_word", "10 nodes rows token refusal found sequence word"),
+    operation!(TOKEN_TO_CHARS, "token_to_chars", "9 nodes rows token refusal found sequence place start end"),
+    operation!(TOKEN_TO_WORD, "token_to_word", "10 nodes rows token refusal found sequence place word"),
     operation!(CHAR_TO_WORD, "char_to_word", "11 nodes rows place sequence refusal found word"),
 ];
 
@@ -158,8 +184,17 @@ fn line(l: &Lookup, b: &Batch, question: [u32; 2], (refusal, values): &Answer) -
     asked.answer(*refusal, values)
 }
 
+/// The Rust's answer, with the row's place where ours has one.
+fn answered(l: &Lookup, e: &Encoding, question: [u32; 2]) -> Vec<u32> {
+    let mut values = (l.rust)(e, question);
+    if l.placed {
+        values.insert(PLACE, place(e, question[0], values[0] == 1, values[1]));
+    }
+    values
+}
+
 fn expected(l: &Lookup, e: &Option<Encoding>, question: [u32; 2], lent: usize) -> Answer {
-    e.as_ref().map_or((1, vec![BEFORE; lent]), |e| (0, (l.rust)(e, question)))
+    e.as_ref().map_or((1, vec![BEFORE; lent]), |e| (0, answered(l, e, question)))
 }
 
 fn case(l: &Lookup, t: &mut Tally, b: &Batch, e: &Option<Encoding>, question: [u32; 2]) {
@@ -177,6 +212,9 @@ fn ask_all(l: &Lookup, t: &mut Tally, b: &Batch) {
 fn compare(l: &Lookup, t: &mut Tally, r: &mut Rng, count: u64) {
     // all ranges, also malformed ones; one encoding with a window that must not be looked at
     inputs::all_ranges(&mut |b| ask_all(l, t, b));
+    if l.placed {
+        inputs::all_range_pairs(&mut |b| ask_all(l, t, b));
+    }
     match l.asked {
         Asked::WordInSequence | Asked::Token => inputs::all_words(&mut |b| ask_all(l, t, b)),
         Asked::PlaceInSequence => inputs::all_offsets(&mut |b| ask_all(l, t, b)),
@@ -190,6 +228,36 @@ fn compare(l: &Lookup, t: &mut Tally, r: &mut Rng, count: u64) {
     }
 }
 
+/// Rows whose place in their sequence is easily got wrong: the ranges of four rows, by id, and the row asked for.
+const PLACES: [(&str, &[(usize, u32, u32)], u32); 8] = [
+    ("a range that starts later", &[(2, 1, 4)], 3),
+    ("the second of two ranges", &[(0, 0, 1), (3, 1, 4)], 2),
+    ("two ranges hold the row, the smaller id starts earlier", &[(0, 0, 4), (1, 2, 4)], 3),
+    ("two ranges hold the row, the smaller id starts later", &[(0, 2, 4), (1, 0, 4)], 3),
+    ("between two ranges", &[(0, 0, 1), (1, 2, 4)], 1),
+    ("no ranges", &[], 3),
+    ("no ranges, the row count itself", &[], 4),
+    ("no ranges, above the row count", &[], 5),
+];
+
+/// Four rows with a word and characters in each, and these ranges.
+fn with_places(ranges: &[(usize, u32, u32)]) -> Batch {
+    let mut b = exact(&[(4, 0)]);
+    for (i, row) in b.rows.chunks_mut(ROW).enumerate() {
+        row[5..9].copy_from_slice(&[1, i as u32 + 60, i as u32 + 20, i as u32 + 30]);
+    }
+    for &(id, start, end) in ranges {
+        b.nodes[2 + id * 3..][..3].copy_from_slice(&[1, start, end]);
+    }
+    b
+}
+
+fn stored(l: &Lookup, what: &str, b: &Batch, question: [u32; 2]) -> Stored {
+    let lent = (l.ours)(b, question).1.len();
+    let answer = expected(l, &one(b), question, lent);
+    Stored { what: what.to_string(), line: line(l, b, question, &answer) }
+}
+
 fn store(l: &Lookup, r: &mut Rng) -> Vec<Stored> {
     let mut out = vec![];
     for i in 0..12 {
@@ -197,10 +265,10 @@ fn store(l: &Lookup, r: &mut Rng) -> Vec<Stored> {
         let e = one(&b);
         let all = questions(l.asked, e.as_ref().map_or(1, |e| e.len() as u32));
         let question = all[r.below(all.len() as u64) as usize];
-        let lent = (l.ours)(&b, question).1.len();
-        let answer = expected(l, &e, question, lent);
-        out.push(Stored { what: if e.is_some() { "one encoding" } else { "another number of encodings" }.to_string(), line: line(l, &b, question, &answer) });
+        out.push(stored(l, if e.is_some() { "one encoding" } else { "another number of encodings" }, &b, question));
     }
+    let places = PLACES.iter().filter(|_| l.placed);
+    out.extend(places.map(|(what, ranges, row)| stored(l, what, &with_places(ranges), [*row, 0])));
     out
 }
 

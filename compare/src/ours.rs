@@ -255,12 +255,12 @@ macro_rules! lookup {
 
 lookup!(sequence_range, noddrefyr_sequence_range, 2, sequence_id);
 lookup!(n_sequences, noddrefyr_n_sequences, 1,);
-lookup!(token_to_sequence, noddrefyr_token_to_sequence, 2, token);
+lookup!(token_to_sequence, noddrefyr_token_to_sequence, 3, token);
 lookup!(word_to_tokens, noddrefyr_word_to_tokens, 3, word, sequence_id);
 lookup!(word_to_chars, noddrefyr_word_to_chars, 3, word, sequence_id);
 lookup!(char_to_token, noddrefyr_char_to_token, 2, place, sequence_id);
-lookup!(token_to_chars, noddrefyr_token_to_chars, 4, token);
-lookup!(token_to_word, noddrefyr_token_to_word, 3, token);
+lookup!(token_to_chars, noddrefyr_token_to_chars, 5, token);
+lookup!(token_to_word, noddrefyr_token_to_word, 4, token);
 lookup!(char_to_word, noddrefyr_char_to_word, 2, place, sequence_id);
 lookup!(span, noddrefyr_span, 3, node);
 

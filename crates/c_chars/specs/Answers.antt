@@ -5,7 +5,7 @@ use Prim.Native.Nat.{ℕ}
 use mathlib.Core.List.{List, [], _∷_}
 use Rattle.record.specs.Refusals.{numberOf}
 use Rattle.lookup_search.specs.declared.TokenAnswer as token
-use Rattle.lookup_chars.specs.declared.TokenCharsAnswer as tokenChars
+use Rattle.lookup_tokens.specs.declared.TokenCharsAnswer as tokenChars
 use Rattle.c_crossing.specs.Crossing.{Crossed, crossed}
 
 abbrev pub tokenCrossed : List ℕ → token.TokenAnswer → Crossed
@@ -15,5 +15,5 @@ tokenCrossed was (token.the-variants.Found row) = crossed 0 (1 ∷ row .0 ∷ []
 
 abbrev pub tokenCharsCrossed : List ℕ → tokenChars.TokenCharsAnswer → Crossed
 tokenCharsCrossed was (tokenChars.the-variants.Refused k) = crossed (numberOf k) was
-tokenCharsCrossed was tokenChars.the-variants.Nothing = crossed 0 (0 ∷ 0 ∷ 0 ∷ 0 ∷ [])
-tokenCharsCrossed was (tokenChars.the-variants.Found s a b) = crossed 0 (1 ∷ s ∷ a .0 ∷ b .0 ∷ [])
+tokenCharsCrossed was tokenChars.the-variants.Nothing = crossed 0 (0 ∷ 0 ∷ 0 ∷ 0 ∷ 0 ∷ [])
+tokenCharsCrossed was (tokenChars.the-variants.Found s p a b) = crossed 0 (1 ∷ s ∷ p .0 ∷ a .0 ∷ b .0 ∷ [])

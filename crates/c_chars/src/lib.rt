@@ -3,10 +3,11 @@
 // too.
 ghost use Rattle.c_chars.specs.Answers.{tokenCrossed, tokenCharsCrossed};
 ghost use Rattle.c_crossing.specs.Crossing.{Crosses};
-ghost use Rattle.lookup_chars.specs.Answers.{charToTokenAnswer, tokenToCharsAnswer};
+ghost use Rattle.lookup_chars.specs.Answers.{charToTokenAnswer};
+ghost use Rattle.lookup_tokens.specs.Answers.{tokenToCharsAnswer};
 ghost use Rattle.record.specs.Read.{read};
-use lookup_chars::TokenCharsAnswer;
 use lookup_search::TokenAnswer;
+use lookup_tokens::TokenCharsAnswer;
 use record::Place;
 use record::Row;
 
@@ -38,32 +39,34 @@ pub extern "C" fn noddrefyr_char_to_token(
     }
 }
 
-// The sequence and the characters of a row of one encoding: found or not, sequence, start, end. Refused with 1.
+// The sequence of a row of one encoding, the row's place from the start of it, and the row's characters: found or not, sequence,
+// place, start, end. Refused with 1.
 #[no_mangle]
 pub extern "C" fn noddrefyr_token_to_chars(
     nodes: &[u32],
     rows: &[u32],
     token: u32,
-    answer: &mut [u32; 4],
+    answer: &mut [u32; 5],
 ) -> u32
     ensures { λ r. ⌜ Crosses
         (tokenCharsCrossed (now (answer .entry))
         (tokenToCharsAnswer (read (now (nodes .entry)) (now (rows .entry))) token))
         r (now (answer .exit)) ⌝ }
 {
-    let found = lookup_chars::token_to_chars(nodes, rows, Row(token));
+    let found = lookup_tokens::token_to_chars(nodes, rows, Row(token));
     match found {
         TokenCharsAnswer::Refused(k) => k.number(),
         TokenCharsAnswer::Nothing => {
-            *answer = [0, 0, 0, 0];
+            *answer = [0, 0, 0, 0, 0];
             0
         }
         TokenCharsAnswer::Found {
             sequence,
+            place,
             start,
             end,
         } => {
-            *answer = [1, sequence, start.0, end.0];
+            *answer = [1, sequence, place.0, start.0, end.0];
             0
         }
     }

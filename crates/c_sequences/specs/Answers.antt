@@ -20,8 +20,8 @@ countCrossed was (count.the-variants.Count n) = crossed 0 (n ∷ [])
 
 abbrev pub sequenceCrossed : List ℕ → sequence.SequenceAnswer → Crossed
 sequenceCrossed was (sequence.the-variants.Refused k) = crossed (numberOf k) was
-sequenceCrossed was sequence.the-variants.Nothing = crossed 0 (0 ∷ 0 ∷ [])
-sequenceCrossed was (sequence.the-variants.Found s) = crossed 0 (1 ∷ s ∷ [])
+sequenceCrossed was sequence.the-variants.Nothing = crossed 0 (0 ∷ 0 ∷ 0 ∷ [])
+sequenceCrossed was (sequence.the-variants.Found s p) = crossed 0 (1 ∷ s ∷ p .0 ∷ [])
 
 abbrev pub columnCrossed : List ℕ → column.ColumnAnswer → Crossed
 columnCrossed was (column.the-variants.Refused k) = crossed (numberOf k) was

@@ -52,13 +52,14 @@ pub extern "C" fn noddrefyr_n_sequences(nodes: &[u32], rows: &[u32], answer: &mu
     }
 }
 
-// The sequence that a row of one encoding is in: found or not, sequence. Refused with 1.
+// The sequence that a row of one encoding is in, and the row's place from the start of it: found or not, sequence, place.
+// Without ranges sequence 0 and the row's own number. Refused with 1.
 #[no_mangle]
 pub extern "C" fn noddrefyr_token_to_sequence(
     nodes: &[u32],
     rows: &[u32],
     token: u32,
-    answer: &mut [u32; 2],
+    answer: &mut [u32; 3],
 ) -> u32
     ensures { λ r. ⌜ Crosses
         (sequenceCrossed (now (answer .entry)) (sequenceAnswer (read (now (nodes .entry)) (now (rows .entry))) token))
@@ -68,11 +69,11 @@ pub extern "C" fn noddrefyr_token_to_sequence(
     match found {
         SequenceAnswer::Refused(k) => k.number(),
         SequenceAnswer::Nothing => {
-            *answer = [0, 0];
+            *answer = [0, 0, 0];
             0
         }
-        SequenceAnswer::Found(sequence) => {
-            *answer = [1, sequence];
+        SequenceAnswer::Found { sequence, place } => {
+            *answer = [1, sequence, place.0];
             0
         }
     }

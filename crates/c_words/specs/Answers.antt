@@ -6,7 +6,7 @@ use mathlib.Core.List.{List, [], _∷_}
 use Rattle.record.specs.Refusals.{numberOf}
 use Rattle.lookup_search.specs.declared.TokensAnswer as tokens
 use Rattle.lookup_words.specs.declared.CharsAnswer as chars
-use Rattle.lookup_chars.specs.declared.TokenWordAnswer as tokenWord
+use Rattle.lookup_tokens.specs.declared.TokenWordAnswer as tokenWord
 use Rattle.lookup_chars.specs.declared.WordAnswer as word
 use Rattle.c_crossing.specs.Crossing.{Crossed, crossed}
 
@@ -22,8 +22,8 @@ charsCrossed was (chars.the-variants.Found a b) = crossed 0 (1 ∷ a .0 ∷ b .0
 
 abbrev pub tokenWordCrossed : List ℕ → tokenWord.TokenWordAnswer → Crossed
 tokenWordCrossed was (tokenWord.the-variants.Refused k) = crossed (numberOf k) was
-tokenWordCrossed was tokenWord.the-variants.Nothing = crossed 0 (0 ∷ 0 ∷ 0 ∷ [])
-tokenWordCrossed was (tokenWord.the-variants.Found s w) = crossed 0 (1 ∷ s ∷ w .0 ∷ [])
+tokenWordCrossed was tokenWord.the-variants.Nothing = crossed 0 (0 ∷ 0 ∷ 0 ∷ 0 ∷ [])
+tokenWordCrossed was (tokenWord.the-variants.Found s p w) = crossed 0 (1 ∷ s ∷ p .0 ∷ w .0 ∷ [])
 
 abbrev pub wordCrossed : List ℕ → word.WordAnswer → Crossed
 wordCrossed was (word.the-variants.Refused k) = crossed (numberOf k) was

@@ -2,12 +2,13 @@
 // through lent numbers, which a refusal leaves as they were. include/noddrefyr.h is made from this file too.
 ghost use Rattle.c_crossing.specs.Crossing.{Crosses};
 ghost use Rattle.c_words.specs.Answers.{tokensCrossed, charsCrossed, tokenWordCrossed, wordCrossed};
-ghost use Rattle.lookup_chars.specs.Answers.{tokenToWordAnswer, charToWordAnswer};
+ghost use Rattle.lookup_chars.specs.Answers.{charToWordAnswer};
+ghost use Rattle.lookup_tokens.specs.Answers.{tokenToWordAnswer};
 ghost use Rattle.lookup_words.specs.Answers.{wordToTokensAnswer, wordToCharsAnswer};
 ghost use Rattle.record.specs.Read.{read};
-use lookup_chars::TokenWordAnswer;
 use lookup_chars::WordAnswer;
 use lookup_search::TokensAnswer;
+use lookup_tokens::TokenWordAnswer;
 use lookup_words::CharsAnswer;
 use record::Place;
 use record::Row;
@@ -69,28 +70,33 @@ pub extern "C" fn noddrefyr_word_to_chars(
     }
 }
 
-// The sequence and the word of a row of one encoding: found or not, sequence, word. Refused with 1.
+// The sequence of a row of one encoding, the row's place from the start of it, and the row's word: found or not, sequence, place,
+// word. Refused with 1.
 #[no_mangle]
 pub extern "C" fn noddrefyr_token_to_word(
     nodes: &[u32],
     rows: &[u32],
     token: u32,
-    answer: &mut [u32; 3],
+    answer: &mut [u32; 4],
 ) -> u32
     ensures { λ r. ⌜ Crosses
         (tokenWordCrossed (now (answer .entry))
         (tokenToWordAnswer (read (now (nodes .entry)) (now (rows .entry))) token))
         r (now (answer .exit)) ⌝ }
 {
-    let found = lookup_chars::token_to_word(nodes, rows, Row(token));
+    let found = lookup_tokens::token_to_word(nodes, rows, Row(token));
     match found {
         TokenWordAnswer::Refused(k) => k.number(),
         TokenWordAnswer::Nothing => {
-            *answer = [0, 0, 0];
+            *answer = [0, 0, 0, 0];
             0
         }
-        TokenWordAnswer::Found { sequence, word } => {
-            *answer = [1, sequence, word.0];
+        TokenWordAnswer::Found {
+            sequence,
+            place,
+            word,
+        } => {
+            *answer = [1, sequence, place.0, word.0];
             0
         }
     }

@@ -1,15 +1,15 @@
--- From the answers of searches back to what the definitions say, and the word of an answer that has a sequence too.
+-- From the answers of searches back to what the definitions say, and the word alone of an answer that has a sequence too.
 -- Assumes nothing.
 use mathlib.Core.Path.{_≡_, refl, sym, ap}
 use Prim.Native.Nat.{ℕ}
 use native.Mathlib.Omega.{arith}
 use mathlib.Core.Option.{Option, none as nothing, some, Option·map}
 use Rattle.record.specs.declared.Refusal.{Refusal}
-use Rattle.lookup_ranges.specs.Contracts.{sequenceFound}
-use Rattle.lookup_ranges.specs.declared.Sequence as sequence
+use Rattle.lookup_holding.specs.Holding.{Placed}
 use Rattle.lookup_search.specs.declared.TokenAnswer as token
 use Rattle.lookup_search.specs.Answers.{tokenAnswer}
-use Rattle.lookup_chars.specs.Answers.{tokenWordAnswer, wordAnswer}
+use Rattle.lookup_tokens.specs.Answers.{tokenWordAnswer}
+use Rattle.lookup_chars.specs.Answers.{wordAnswer}
 use Rattle.lookup_chars.specs.Contracts.{wordAlone}
 
 abbrev pub tokenBack : token.TokenAnswer → Option ℕ
@@ -25,14 +25,6 @@ pub token-granted : {A : Type 0} (o : Option ℕ) (k : Refusal) → token.the-va
 token-granted nothing k e = absurd (let z : _≡_ {A = ℕ} 0 1 = cc in omega arith)
 token-granted (some b) k e = absurd (let z : _≡_ {A = ℕ} 0 1 = cc in omega arith)
 
-abbrev pub sequenceBack : sequence.Sequence → Option ℕ
-sequenceBack sequence.the-variants.Nothing = nothing
-sequenceBack (sequence.the-variants.Found k) = some k
-
-pub sequence-back : (o : Option ℕ) (a : sequence.Sequence) → a ≡ sequenceFound o → o ≡ sequenceBack a
-sequence-back nothing a e = sym (ap sequenceBack e)
-sequence-back (some b) a e = sym (ap sequenceBack e)
-
-pub word-alone : (o : Option (ℕ × ℕ)) → wordAlone (tokenWordAnswer o) ≡ wordAnswer (Option·map (λ found. found .1) o)
+pub word-alone : (o : Option (Placed × ℕ)) → wordAlone (tokenWordAnswer o) ≡ wordAnswer (Option·map (λ found. found .1) o)
 word-alone nothing = refl
 word-alone (some found) = refl

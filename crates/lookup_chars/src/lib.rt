@@ -1,40 +1,18 @@
-// The row of a character, the characters and the word of a row, the word of a character (document 01, module 1): lookups of
-// the Rust's encoding. Each reads the top node of a batch of one encoding; any other batch is refused with 1, and nothing
-// is a normal answer.
+// The row of a character, and the word of a character (document 01, module 1): lookups of the Rust's encoding. Each reads the
+// top node of a batch of one encoding; any other batch is refused with 1, and nothing is a normal answer.
 ghost use mathlib.Core.Bool.{true};
 ghost use mathlib.Core.Path.{_≡_};
-ghost use Rattle.lookup_chars.specs.Answers.{tokenCharsAnswer, tokenWordAnswer, wordAnswer, charToTokenAnswer, tokenToCharsAnswer, tokenToWordAnswer, charToWordAnswer};
-ghost use Rattle.lookup_chars.specs.Chars.{charToToken, tokenToChars, tokenToWord, charToWord};
+ghost use Rattle.lookup_chars.specs.Answers.{wordAnswer, charToTokenAnswer, charToWordAnswer};
+ghost use Rattle.lookup_chars.specs.Chars.{charToToken, charToWord};
 ghost use Rattle.lookup_chars.specs.Contracts.{wordAlone};
 ghost use Rattle.lookup_search.specs.Answers.{tokenAnswer};
 ghost use Rattle.lookup_search.specs.Contracts.{OfOne};
 ghost use Rattle.record.specs.Read.{read, isOne};
-use lookup_ranges::Sequence;
 use lookup_search::TokenAnswer;
-use record::Column;
-use record::Encoding;
+use lookup_tokens::TokenWordAnswer;
 use record::Place;
 use record::Refusal;
-use record::Row;
 use record::Word;
-
-// The characters of a row, and its sequence.
-pub enum TokenCharsAnswer {
-    Refused(Refusal),
-    Nothing,
-    Found {
-        sequence: u32,
-        start: Place,
-        end: Place,
-    },
-}
-
-// The word of a row, and its sequence.
-pub enum TokenWordAnswer {
-    Refused(Refusal),
-    Nothing,
-    Found { sequence: u32, word: Word },
-}
 
 // The word that holds a character.
 pub enum WordAnswer {
@@ -51,26 +29,6 @@ pub fn char_to_token(nodes: &[u32], rows: &[u32], place: Place, sequence_id: u32
         return token_of_char(nodes, rows, place, sequence_id);
     }
     TokenAnswer::Refused(Refusal::MalformedRecord)
-}
-
-// The sequence and the characters of a row. Refusal: 1.
-pub fn token_to_chars(nodes: &[u32], rows: &[u32], token: Row) -> TokenCharsAnswer
-    ensures { λ r. ⌜ r ≡ tokenToCharsAnswer (read (now (nodes .entry)) (now (rows .entry))) (token .0) ⌝ }
-{
-    if record_check::is_one(nodes, rows) {
-        return chars_of_token(nodes, rows, token);
-    }
-    TokenCharsAnswer::Refused(Refusal::MalformedRecord)
-}
-
-// The sequence and the word of a row. Refusal: 1.
-pub fn token_to_word(nodes: &[u32], rows: &[u32], token: Row) -> TokenWordAnswer
-    ensures { λ r. ⌜ r ≡ tokenToWordAnswer (read (now (nodes .entry)) (now (rows .entry))) (token .0) ⌝ }
-{
-    if record_check::is_one(nodes, rows) {
-        return word_of_token(nodes, rows, token);
-    }
-    TokenWordAnswer::Refused(Refusal::MalformedRecord)
 }
 
 // The word of a sequence that holds a character. Refusal: 1.
@@ -94,48 +52,6 @@ fn token_of_char(nodes: &[u32], rows: &[u32], place: Place, sequence_id: u32) ->
     lookup_search::first_holding(rows, bounds.start, bounds.end, place.0)
 }
 
-fn chars_of_token(nodes: &[u32], rows: &[u32], token: Row) -> TokenCharsAnswer
-    requires { ⌜ isOne (read (now nodes) (now rows)) ≡ true ⌝ }
-    ensures { λ r. ⌜ OfOne (now (nodes .entry)) (now (rows .entry)) (λ E. r ≡ tokenCharsAnswer (tokenToChars E (token .0))) ⌝ }
-{
-    let row = token.0;
-    if row >= nodes[0] {
-        return TokenCharsAnswer::Nothing;
-    }
-    let found = lookup_ranges::sequence_of(nodes, row);
-    let Sequence::Found(sequence) = found else {
-        return TokenCharsAnswer::Nothing;
-    };
-    let at = (row as usize) * Encoding::ROW_WIDTH;
-    TokenCharsAnswer::Found {
-        sequence,
-        start: Place(rows[at + Column::OFFSET_START]),
-        end: Place(rows[at + Column::OFFSET_END]),
-    }
-}
-
-fn word_of_token(nodes: &[u32], rows: &[u32], token: Row) -> TokenWordAnswer
-    requires { ⌜ isOne (read (now nodes) (now rows)) ≡ true ⌝ }
-    ensures { λ r. ⌜ OfOne (now (nodes .entry)) (now (rows .entry)) (λ E. r ≡ tokenWordAnswer (tokenToWord E (token .0))) ⌝ }
-{
-    let row = token.0;
-    if row >= nodes[0] {
-        return TokenWordAnswer::Nothing;
-    }
-    let at = (row as usize) * Encoding::ROW_WIDTH;
-    if rows[at + Column::WORD_MARK] != 1 {
-        return TokenWordAnswer::Nothing;
-    }
-    let found = lookup_ranges::sequence_of(nodes, row);
-    let Sequence::Found(sequence) = found else {
-        return TokenWordAnswer::Nothing;
-    };
-    TokenWordAnswer::Found {
-        sequence,
-        word: Word(rows[at + Column::WORD]),
-    }
-}
-
 fn word_of_char(nodes: &[u32], rows: &[u32], place: Place, sequence_id: u32) -> WordAnswer
     requires { ⌜ isOne (read (now nodes) (now rows)) ≡ true ⌝ }
     ensures { λ r. ⌜ OfOne (now (nodes .entry)) (now (rows .entry))
@@ -145,17 +61,21 @@ fn word_of_char(nodes: &[u32], rows: &[u32], place: Place, sequence_id: u32) -> 
     match holding {
         TokenAnswer::Refused(refusal) => WordAnswer::Refused(refusal),
         TokenAnswer::Nothing => WordAnswer::Nothing,
-        TokenAnswer::Found(token) => word_alone(word_of_token(nodes, rows, token)),
+        TokenAnswer::Found(token) => word_alone(lookup_tokens::word_of_token(nodes, rows, token)),
     }
 }
 
-// The word of an answer that has a sequence too.
+// The word alone of an answer that has a sequence and a place too.
 fn word_alone(found: TokenWordAnswer) -> WordAnswer
     ensures { λ r. ⌜ r ≡ wordAlone found ⌝ }
 {
     match found {
         TokenWordAnswer::Refused(refusal) => WordAnswer::Refused(refusal),
         TokenWordAnswer::Nothing => WordAnswer::Nothing,
-        TokenWordAnswer::Found { sequence: _, word } => WordAnswer::Found(word),
+        TokenWordAnswer::Found {
+            sequence: _,
+            place: _,
+            word,
+        } => WordAnswer::Found(word),
     }
 }

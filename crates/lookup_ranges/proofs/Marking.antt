@@ -1,7 +1,7 @@
 -- How the sequence column is written: one row marked, all rows of one sequence, one sequence after another.
 -- Assumes nothing.
 use mathlib.Core.Path.{_≡_, refl, sym, ap, ap₂, _∙_, subst}
-use mathlib.Core.Bool.{Bool, true, false, cond}
+use mathlib.Core.Bool.{Bool, true, false, cond, and-false}
 use mathlib.Core.Option.{Option, none as nothing, some}
 use Prim.Native.Nat.{ℕ, zero, suc, _+_, _*_, _≤_, _<_}
 use native.Mathlib.Numerals.{add-one}
@@ -14,7 +14,6 @@ use Rattle.record.specs.Tree.{Encoding}
 use Rattle.record.specs.declared.Bounds.{Bounds}
 use Rattle.lookup_ranges.specs.Ranges.{sequenceRange, nSequences, sequenceAt, markAndId, column, getSequenceIds}
 use Rattle.lookup_ranges.specs.Contracts.{marked, Marks}
-use Rattle.lookup_ranges.proofs.Ranges.{and-false}
 use Rattle.lookup_ranges.proofs.Column.{column-same, column-none}
 
 -- ---- One row marked

@@ -1,31 +1,23 @@
 -- The ranges of the top node by their places in the slice, and one step of the walks over them.
 -- Assumes nothing.
-use mathlib.Core.Path.{_≡_, refl, sym, ap, ap₂, _∙_}
+use mathlib.Core.Path.{_≡_, refl, sym, ap, _∙_}
 use mathlib.Core.Logic.{_⊎_, inl, inr, ⊎-elim}
-use mathlib.Core.Bool.{Bool, true, false, _&&_}
-use mathlib.Core.Option.{Option, none as nothing, some}
-use Prim.Native.Nat.{ℕ, suc, _+_, _*_, _≤_, _<_}
+use mathlib.Core.Bool.{Bool, true, false}
+use Prim.Native.Nat.{ℕ, _+_, _*_, _≤_, _<_}
 use native.Mathlib.Numerals.{add-one}
 use native.Mathlib.Omega.{arith}
 use mathlib.Core.List.{List}
-use lib.Dec.{leb, ltb, eqb}
+use lib.Dec.{ltb, eqb}
 use lib.ListN.{length, getD, drop, List·getD-eq-default, drop-of-length-le}
 use lib.Seq.{drop-cons}
-use borrow.Author.Tests.{le-leb, lt-leb, lt-ltb, le-ltb, eq-eqb, ne-eqb, ltb-true, ltb-false}
+use borrow.Author.Tests.{eq-eqb, ne-eqb, ltb-true, ltb-false}
 use Rattle.record.specs.Tree.{Range, Encoding, absent, sequences}
 use Rattle.record.specs.Flat.{rangeNumbers}
 use Rattle.record.specs.WellFormed.{RangeFine}
 use Rattle.record.specs.Standing.{One}
-use Rattle.record.proofs.WellFormed.{tells-le, tells-eq, tells-and₃}
 use Rattle.lists.proofs.All.{all-at}
 use Rattle.record.proofs.One.{one-fine, one-size, one-range}
-use Rattle.lookup_ranges.specs.First.{firstFrom}
-use Rattle.lookup_ranges.specs.Ranges.{sequenceRange, present, nSequences, holdsRow, tokenToSequence}
-use Rattle.lookup_ranges.proofs.First.{FirstAt, not-found, first-here, first-next, first-end, first-found}
-
-pub and-false : (b : Bool) → (b && false) ≡ false
-and-false true = refl
-and-false false = refl
+use Rattle.lookup_ranges.specs.Ranges.{sequenceRange, present, nSequences}
 
 -- ---- The numbers of range k
 
@@ -96,57 +88,6 @@ count-none E n = rw (eq-eqb (present (E .ranges)) 0 n)
 pub count-some : (E : Encoding) → (present (E .ranges) ≡ 0 → ⊥) → nSequences E ≡ present (E .ranges)
 unfolding nSequences
 count-some E n = rw (ne-eqb (present (E .ranges)) 0 n)
-
--- ---- One step of the search for the range that holds a row
-
-abbrev pub firstHolding : ℕ → ℕ → Encoding → Option ℕ
-firstHolding row k E = firstFrom (holdsRow row) k (drop k (E .ranges))
-
-not-held : (row mark start end : ℕ) → (mark ≡ 1 → ⊥) ⊎ ((row < start) ⊎ (end ≤ row)) → (eqb mark 1 && (leb start row && ltb row end)) ≡ false
-not-held row mark start end (inl n) = rw (ne-eqb mark 1 n)
-not-held row mark start end (inr (inl n)) = rw (lt-leb start row n) (and-false (eqb mark 1))
-not-held row mark start end (inr (inr n)) = rw (le-ltb row end n) (ap (eqb mark 1 &&_) (and-false (leb start row)) ∙ and-false (eqb mark 1))
-
-module _ {nodes rows : List ℕ} {E : Encoding} (h : One nodes rows E) (row k : ℕ) where
-  pub holding-here : k < sequences → getD nodes (2 + k * 3) 0 ≡ 1 → getD nodes (2 + k * 3 + 1) 0 ≤ row → row < getD nodes (2 + k * 3 + 2) 0 → firstHolding row k E ≡ some k
-  holding-here b m s e =
-      first-here (holdsRow row) (E .ranges) k k absent (place-there h k b)
-      (ap₂ _&&_ (eq-eqb _ 1 (sym (mark-is h k b) ∙ m)) (ap₂ _&&_ (le-leb _ row (omega (arith, start-is h k b))) (lt-ltb row _ (omega (arith, end-is h k b)))))
-
-  pub holding-end : sequences ≤ k → firstHolding row k E ≡ nothing
-  holding-end o = first-end (holdsRow row) (E .ranges) k k (omega (arith, one-fine h .places))
-
-  pub holding-next : k < sequences → (getD nodes (2 + k * 3) 0 ≡ 1 → ⊥) ⊎ ((row < getD nodes (2 + k * 3 + 1) 0) ⊎ (getD nodes (2 + k * 3 + 2) 0 ≤ row)) → firstHolding row k E ≡ firstHolding row (k + 1) E
-  holding-next b o = first-next (holdsRow row) (E .ranges) k k absent (place-there h k b) (rw (mark-is h k b, start-is h k b, end-is h k b) at (not-held row _ _ _ o))
-
--- ---- The three cases of `tokenToSequence`
-
-module _ (E : Encoding) (row : ℕ) where
-  pub token-above : length (E .rows) < row → tokenToSequence E row ≡ nothing
-  unfolding tokenToSequence
-  token-above a = rw (lt-ltb (length (E .rows)) row a)
-
-  pub token-alone : row ≤ length (E .rows) → present (E .ranges) ≡ 0 → tokenToSequence E row ≡ some 0
-  unfolding tokenToSequence
-  token-alone a n = rw (le-ltb (length (E .rows)) row a, eq-eqb (present (E .ranges)) 0 n)
-
-  pub token-first : row ≤ length (E .rows) → (present (E .ranges) ≡ 0 → ⊥) → tokenToSequence E row ≡ firstFrom (holdsRow row) 0 (E .ranges)
-  unfolding tokenToSequence
-  token-first a n = rw (le-ltb (length (E .rows)) row a, ne-eqb (present (E .ranges)) 0 n)
-
--- ---- What `tokenToSequence` finds
-
--- where there are ranges, the sequence found has one that holds the row, and none with a smaller id does
-pub token-found : (E : Encoding) (row k : ℕ) → (present (E .ranges) ≡ 0 → ⊥) → tokenToSequence E row ≡ some k → FirstAt (holdsRow row) 0 (E .ranges) absent k
-token-found E row k n e = first-found (holdsRow row) absent 0 (E .ranges) k (go (ltb (length (E .rows)) row) refl)
-  where
-    go : (b : Bool) → ltb (length (E .rows)) row ≡ b → firstFrom (holdsRow row) 0 (E .ranges) ≡ some k
-    go true b = absurd (not-found (token-above E row (ltb-true (length (E .rows)) row b)) e)
-    go false b = sym (token-first E row (ltb-false (length (E .rows)) row b) n) ∙ e
-
--- what it means that a range holds a row
-pub held : (row : ℕ) (p : Range) → holdsRow row p ≡ true → (p .present ≡ 1) × (p .start ≤ row) × (row < p .end)
-held row p e = tells-and₃ (tells-eq (p .present) 1) (tells-le (p .start) row) (tells-le (suc row) (p .end)) .so e
 
 -- ---- The rows of a sequence are rows of the encoding
 

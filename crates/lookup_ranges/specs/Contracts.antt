@@ -1,5 +1,5 @@
--- What the functions of the top node ask and give: what holds of the one encoding, a sequence that is found, and what the
--- pass that writes the sequence column does for one sequence, and for all.
+-- What the functions of the top node ask and give: what holds of the one encoding, and what the pass that writes the
+-- sequence column does for one sequence, and for all.
 -- Assumes nothing: these are definitions.
 use Prim.Native.Nat.{ℕ, _*_, _≤_}
 use mathlib.Core.List.{List, _++_}
@@ -7,21 +7,14 @@ use Rattle.record.specs.Tree.{Encoding}
 use Rattle.record.specs.Standing.{One}
 use mathlib.Core.Path.{_≡_}
 use mathlib.Core.Bool.{cond}
-use mathlib.Core.Option.{Option, some, none as nothing}
+use mathlib.Core.Option.{Option, some}
 use lib.ListN.{length}
 use Rattle.lookup_ranges.specs.Ranges.{rowInside, column}
 use Rattle.record.specs.declared.Bounds.{Bounds}
-use Rattle.lookup_ranges.specs.declared.Sequence.{Sequence}
-use Rattle.lookup_ranges.specs.declared.Sequence.the-variants as sequence
 
 -- M holds of the one encoding that the nodes, with whichever rows, store
 abbrev pub OfTop : List ℕ → (Encoding → Type 0) → Type 0
 OfTop nodes M = (rows : List ℕ) (E : Encoding) → One nodes rows E → M E
-
--- "None is a normal result"
-abbrev pub sequenceFound : Option ℕ → Sequence
-sequenceFound nothing = sequence.Nothing
-sequenceFound (some k) = sequence.Found k
 
 -- ---- The sequence column
 

@@ -7,7 +7,6 @@ use mathlib.Core.List.{List, [], _∷_, _++_}
 use lib.Dec.{leb, ltb, eqb}
 use lib.ListN.{length, getD}
 use Rattle.record.specs.Tree.{Range, Encoding, absent}
-use Rattle.lookup_ranges.specs.First.{firstFrom}
 use Rattle.record.specs.declared.Bounds.{Bounds}
 
 -- "sequence_range of an absent id is all rows"; an id past the last place is absent too
@@ -24,18 +23,6 @@ present (p ∷ ps) = p .present + present ps
 -- "n the number of ranges or 1"
 unfoldable pub nSequences : Encoding → ℕ
 nSequences E = cond (eqb (present (E .ranges)) 0) 1 (present (E .ranges))
-
--- the range is there and holds the row
-abbrev pub holdsRow : ℕ → Range → Bool
-holdsRow row p = eqb (p .present) 1 && (leb (p .start) row && ltb row (p .end))
-
--- "none above the row count; 0 if no ranges, also at the row count itself; else the smallest id whose range holds the
--- row"
-unfoldable pub tokenToSequence : Encoding → ℕ → Option ℕ
-tokenToSequence E row =
-    cond (ltb (length (E .rows)) row) nothing
-    (cond (eqb (present (E .ranges)) 0) (some 0)
-    (firstFrom (holdsRow row) 0 (E .ranges)))
 
 -- ---- The sequence column
 

@@ -1,21 +1,14 @@
-// What the top node of an encoding says of its sequences: the rows of each, how many there are, which one holds a row,
-// and the sequence column. The operations that check their input first are in lookup_sequences.
+// What the top node of an encoding says of its sequences: the rows of each, how many there are, and the sequence column.
+// The operations that check their input first are in lookup_sequences.
 ghost use mathlib.Core.List.{List, _++_};
 ghost use mathlib.Core.Path.{_≡_};
 ghost use Prim.Native.Nat.{ℕ, _*_, _≤_};
 ghost use lib.ListN.{length, replicate};
-ghost use Rattle.lookup_ranges.specs.Contracts.{sequenceFound, Marks, ColumnFits, OfTop};
-ghost use Rattle.lookup_ranges.specs.First.{firstFrom};
-ghost use Rattle.lookup_ranges.specs.Ranges.{sequenceRange, present, nSequences, holdsRow, tokenToSequence, getSequenceIds};
+ghost use Rattle.lookup_ranges.specs.Contracts.{Marks, ColumnFits, OfTop};
+ghost use Rattle.lookup_ranges.specs.Ranges.{sequenceRange, present, nSequences, getSequenceIds};
 ghost use Rattle.record.specs.Flat.{nodeWidth};
 use record::Bounds;
 use record::Encoding;
-
-// The sequence that holds a row.
-pub enum Sequence {
-    Nothing,
-    Found(u32),
-}
 
 // ---- What the operations share: functions of the top node, which is there.
 
@@ -38,36 +31,6 @@ pub fn range_of(nodes: &[u32], sequence_id: u32) -> Bounds
         start: 0,
         end: nodes[0],
     }
-}
-
-// The sequence that holds a row.
-pub fn sequence_of(nodes: &[u32], row: u32) -> Sequence
-    requires { ⌜ nodeWidth ≤ length (now nodes) ⌝ }
-    ensures { λ r. ⌜ OfTop (now (nodes .entry)) (λ E. r ≡ sequenceFound (tokenToSequence E row)) ⌝ }
-{
-    if row > nodes[0] {
-        return Sequence::Nothing;
-    }
-    if present_of(nodes) == 0 {
-        return Sequence::Found(0);
-    }
-    first_holding(nodes, row)
-}
-
-// The smallest id whose range holds the row.
-pub fn first_holding(nodes: &[u32], row: u32) -> Sequence
-    requires { ⌜ nodeWidth ≤ length (now nodes) ⌝ }
-    ensures { λ r. ⌜ OfTop (now (nodes .entry)) (λ E. r ≡ sequenceFound (firstFrom (holdsRow row) 0 (E .ranges))) ⌝ }
-{
-    let mut k: usize = 0;
-    while k < Encoding::SEQUENCES {
-        let at = Encoding::RANGES + k * Encoding::RANGE_WIDTH;
-        if nodes[at] == 1 && nodes[at + 1] <= row && row < nodes[at + 2] {
-            return Sequence::Found(k as u32);
-        }
-        k += 1;
-    }
-    Sequence::Nothing
 }
 
 // The number of ranges.

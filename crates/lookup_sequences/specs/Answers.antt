@@ -11,10 +11,11 @@ use Rattle.record.specs.Outcome.{over}
 use Rattle.record.specs.declared.Bounds.{Bounds}
 use Rattle.record.specs.declared.Refusal.{Refusal}
 use Rattle.record.specs.declared.Refusal.the-variants.{MalformedRecord, NoRoom}
-use Rattle.lookup_ranges.specs.Ranges.{sequenceRange, nSequences, tokenToSequence, getSequenceIds}
-use Rattle.lookup_ranges.specs.Contracts.{sequenceFound}
-use Rattle.lookup_ranges.specs.declared.Sequence.{Sequence}
-use Rattle.lookup_ranges.specs.declared.Sequence.the-variants as sequence
+use Rattle.lookup_ranges.specs.Ranges.{sequenceRange, nSequences, getSequenceIds}
+use Rattle.lookup_holding.specs.Holding.{tokenToSequence}
+use Rattle.lookup_holding.specs.Contracts.{sequenceFound}
+use Rattle.lookup_holding.specs.declared.Sequence.{Sequence}
+use Rattle.lookup_holding.specs.declared.Sequence.the-variants as sequence
 use Rattle.lookup_sequences.specs.declared.RangeAnswer.{RangeAnswer}
 use Rattle.lookup_sequences.specs.declared.RangeAnswer.the-variants as range-answer
 use Rattle.lookup_sequences.specs.declared.CountAnswer.{CountAnswer}
@@ -28,10 +29,10 @@ use Rattle.lookup_sequences.specs.declared.ColumnAnswer.the-variants as 
 abbrev pub rowsAnswer : Bounds → RangeAnswer
 rowsAnswer b = range-answer.Rows (record { 0 = b .start }) (record { 0 = b .end })
 
--- nothing, or the sequence that holds a row
+-- nothing, or the sequence that holds a row, and the row's place in it
 abbrev pub foundAnswer : Sequence → SequenceAnswer
 foundAnswer sequence.Nothing = sequence-answer.Nothing
-foundAnswer (sequence.Found k) = sequence-answer.Found k
+foundAnswer (sequence.Found k place) = sequence-answer.Found k place
 
 -- ---- The operations. "Lookups, span: 1. None is a normal result."
 

@@ -4,9 +4,10 @@ ghost use mathlib.Core.Path.{_≡_};
 ghost use lib.ListN.{length};
 ghost use Rattle.lookup_sequences.specs.Answers.{rangeAnswer, sequenceCountAnswer, sequenceAnswer, sequenceIds, columnAnswer, columnLeft};
 ghost use Rattle.record.specs.Read.{read};
-use lookup_ranges::Sequence;
+use lookup_holding::Sequence;
 use record::Refusal;
 use record::Row;
+use record::SequencePlace;
 
 // The rows of a sequence: from start up to, not including, end.
 pub enum RangeAnswer {
@@ -19,10 +20,11 @@ pub enum CountAnswer {
     Count(u32),
 }
 
+// The sequence that a row is in, and the row's place in it.
 pub enum SequenceAnswer {
     Refused(Refusal),
     Nothing,
-    Found(u32),
+    Found { sequence: u32, place: SequencePlace },
 }
 
 // Done with the number of rows: two numbers were written for each.
@@ -55,15 +57,16 @@ pub fn n_sequences(nodes: &[u32], rows: &[u32]) -> CountAnswer
     CountAnswer::Refused(Refusal::MalformedRecord)
 }
 
-// The sequence that a row is in: the smallest id whose range holds it, 0 if there are no ranges. Refusal: 1.
+// The sequence that a row is in, and its place counted from the start of that sequence's range: the smallest id whose range
+// holds it; 0 and the row's own number if there are no ranges. Refusal: 1.
 pub fn token_to_sequence(nodes: &[u32], rows: &[u32], token: Row) -> SequenceAnswer
     ensures { λ r. ⌜ r ≡ sequenceAnswer (read (now (nodes .entry)) (now (rows .entry))) (token .0) ⌝ }
 {
     if record_check::is_one(nodes, rows) {
-        let found = lookup_ranges::sequence_of(nodes, token.0);
+        let found = lookup_holding::sequence_of(nodes, token.0);
         return match found {
             Sequence::Nothing => SequenceAnswer::Nothing,
-            Sequence::Found(k) => SequenceAnswer::Found(k),
+            Sequence::Found { sequence, place } => SequenceAnswer::Found { sequence, place },
         };
     }
     SequenceAnswer::Refused(Refusal::MalformedRecord)

@@ -66,13 +66,15 @@ impl Column {
     pub const ATTENTION: usize = 10;
 }
 
-// The numbers of a row, of a word and of a character, each a type of its own: a word handed over as a row is an error of
-// the build. All count from 0.
+// The numbers of a row, of a word and of a character, and the place of a row in its sequence, each a type of its own: one
+// handed over for another, as a word for a row, is an error of the build. All count from 0.
 pub struct Row(pub u32);
 
 pub struct Word(pub u32);
 
 pub struct Place(pub u32);
+
+pub struct SequencePlace(pub u32);
 
 // A stretch of rows: its first row, and the row after its last.
 pub struct Bounds {

@@ -94,3 +94,9 @@ pub fn answered_four(refusal: u32, lent: &[u32; 4], case: &[u32], at: usize) -> 
 {
     answered(refusal, lent, case, at)
 }
+
+pub fn answered_five(refusal: u32, lent: &[u32; 5], case: &[u32], at: usize) -> Outcome
+    ensures { λ r. ⌜ Told r (refusal ∷ now (lent .entry)) (now (case .entry)) at ⌝ }
+{
+    answered(refusal, lent, case, at)
+}

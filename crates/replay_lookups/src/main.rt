@@ -127,20 +127,20 @@ fn char_to_token(nodes: &[u32], rows: &[u32], rest: &[u32]) -> Outcome {
     replay_answers::answered_two(refusal, &answer, rest, 2)
 }
 
-// `9 nodes rows token refusal found sequence start end`
+// `9 nodes rows token refusal found sequence place start end`
 fn token_to_chars(nodes: &[u32], rows: &[u32], rest: &[u32]) -> Outcome {
     let token = replay_cases::number_at(rest, 0);
-    let mut answer = [BEFORE; 4];
+    let mut answer = [BEFORE; 5];
     let refusal = c_chars::noddrefyr_token_to_chars(nodes, rows, token, &mut answer);
-    replay_answers::answered_four(refusal, &answer, rest, 1)
+    replay_answers::answered_five(refusal, &answer, rest, 1)
 }
 
-// `10 nodes rows token refusal found sequence word`
+// `10 nodes rows token refusal found sequence place word`
 fn token_to_word(nodes: &[u32], rows: &[u32], rest: &[u32]) -> Outcome {
     let token = replay_cases::number_at(rest, 0);
-    let mut answer = [BEFORE; 3];
+    let mut answer = [BEFORE; 4];
     let refusal = c_words::noddrefyr_token_to_word(nodes, rows, token, &mut answer);
-    replay_answers::answered_three(refusal, &answer, rest, 1)
+    replay_answers::answered_four(refusal, &answer, rest, 1)
 }
 
 // `11 nodes rows place sequence refusal found word`

@@ -60,14 +60,14 @@ pub fn n_sequences(nodes: &[u32], rows: &[u32], rest: &[u32]) -> Outcome
     replay_answers::answered_one(refusal, &answer, rest, 0)
 }
 
-// `4 nodes rows token refusal found sequence`
+// `4 nodes rows token refusal found sequence place`
 pub fn token_to_sequence(nodes: &[u32], rows: &[u32], rest: &[u32]) -> Outcome
     ensures { λ r. ⌜ ToldCrossed r
-        (sequenceCrossed (replicate 2 7) (sequenceAnswer (read (now (nodes .entry)) (now (rows .entry))) (getD (now (rest .entry)) 0 0)))
+        (sequenceCrossed (replicate 3 7) (sequenceAnswer (read (now (nodes .entry)) (now (rows .entry))) (getD (now (rest .entry)) 0 0)))
         (now (rest .entry)) 1 ⌝ }
 {
     let token = replay_cases::number_at(rest, 0);
-    let mut answer = [BEFORE; 2];
+    let mut answer = [BEFORE; 3];
     let refusal = c_sequences::noddrefyr_token_to_sequence(nodes, rows, token, &mut answer);
-    replay_answers::answered_two(refusal, &answer, rest, 1)
+    replay_answers::answered_three(refusal, &answer, rest, 1)
 }

@@ -4,7 +4,8 @@ use mathlib.Core.Path.{refl}
 use mathlib.Core.List.{flatMap}
 use Rattle.lists.specs.Lists.{All}
 use Rattle.lookup_ranges.specs.First.{firstFrom, lastFrom, until}
-use Rattle.lookup_ranges.specs.Ranges.{sequenceRange, present, nSequences, tokenToSequence, sequenceAt, column, getSequenceIds}
+use Rattle.lookup_ranges.specs.Ranges.{sequenceRange, present, nSequences, sequenceAt, column, getSequenceIds}
+use Rattle.lookup_holding.specs.Holding.{holdingSequence, placeIn, tokenToSequence}
 use Rattle.lookup_words.specs.Words.{wordToTokens}
 use Rattle.lookup_search.specs.Searches.{wordRows}
 use Rattle.record.specs.Flat.{rowNumbers, rangeNumbers, flatNodes, flatRows}
@@ -24,5 +25,5 @@ use Rattle.template_text.specs.Template.{readParts, readTemplate}
 use Rattle.samples.specs.Samples.{samples, Holds}
 
 pub hold : All Holds samples
-unfolding flatMap windowsOf rightFrom leftFrom keptBoth truncated cutOutcome inRoom fitsOk flatNodes flatRows rowNumbers rangeNumbers join withEach eachWith lettered letter sampleS sampleP sampleQ spelled spelledWindows firstFrom lastFrom until sequenceRange present nSequences tokenToSequence sequenceAt column getSequenceIds wordRows wordToTokens split decimalAfter afterSign readNumber same sequenceOf named pieceTyped readPart readParts readTemplate
+unfolding flatMap windowsOf rightFrom leftFrom keptBoth truncated cutOutcome inRoom fitsOk flatNodes flatRows rowNumbers rangeNumbers join withEach eachWith lettered letter sampleS sampleP sampleQ spelled spelledWindows firstFrom lastFrom until sequenceRange present nSequences holdingSequence placeIn tokenToSequence sequenceAt column getSequenceIds wordRows wordToTokens split decimalAfter afterSign readNumber same sequenceOf named pieceTyped readPart readParts readTemplate
 hold = (refl, (refl, (refl, (refl, (refl, (refl, (refl, (refl, (refl, (refl, (refl, (refl, (refl, (refl, (refl, (refl, (refl, (refl, (refl, (refl, (refl, (refl, (refl, (refl, (refl, (refl, (refl, tt)))))))))))))))))))))))))))

@@ -1,4 +1,4 @@
--- Document 01's starred samples, all of them, three as document 02 changes them: one list, over the definitions that the operations promise.
+-- Document 01's starred samples, all of them, four as document 02 changes them: one list, over the definitions that the operations promise.
 -- Assumes nothing: these are definitions. That every entry holds is `hold` of proofs/Hold.
 use mathlib.Core.Path.{_≡_}
 use mathlib.Core.Option.{Option, none as nothing, some}
@@ -8,7 +8,8 @@ use mathlib.Core.Bool.{Bool, true, false}
 use mathlib.Core.List.{List, [], _∷_, _++_, map, flatMap}
 use lib.ListN.{replicate, set}
 use Rattle.record.specs.Tree.{Row, Forest, Encoding, encoding, forest, sequences, absent}
-use Rattle.lookup_ranges.specs.Ranges.{tokenToSequence, getSequenceIds}
+use Rattle.lookup_ranges.specs.Ranges.{getSequenceIds}
+use Rattle.lookup_holding.specs.Holding.{Placed, tokenToSequence}
 use Rattle.record.specs.declared.Bounds.{Bounds, Bounds as Stretch}
 use Rattle.lookup_words.specs.Words.{wordToTokens}
 use Rattle.record.specs.Flat.{rowWidth, nodeWidth, flatNodes, flatRows}
@@ -63,9 +64,10 @@ abbrev pub boundsNumbers : Option Bounds → List ℕ
 boundsNumbers nothing = []
 boundsNumbers (some b) = b .start ∷ b .end ∷ []
 
-abbrev pub numbers : Option ℕ → List ℕ
-numbers nothing = []
-numbers (some n) = n ∷ []
+-- a sequence, and the place of a row in it
+abbrev pub placedNumbers : Option Placed → List ℕ
+placedNumbers nothing = []
+placedNumbers (some p) = p .sequence ∷ p .place ∷ []
 
 -- the letters of an encoding's direct windows, a 0 before each: S, P, Q are 1, 2, 3 and their windows c, d, e (in the
 -- first sample s, p) 11, 12, 13
@@ -99,9 +101,10 @@ abbrev pub lookupSamples : List Sample
 lookupSamples =
     -- "Words 1, 3, 1: word 1 is rows 0 to 1, end not included."
     sample (boundsNumbers (wordToTokens (worded (1 ∷ 3 ∷ 1 ∷ [])) 1 0)) (0 ∷ 1 ∷ [])
-    -- "3 rows, only range id 1, start 0, end 2: row 0 is in 1, row 2 in none, the sequence column is 0, 0, 0."
-    ∷ sample (numbers (tokenToSequence (ranged 1 0 2) 0)) (1 ∷ [])
-    ∷ sample (numbers (tokenToSequence (ranged 1 0 2) 2)) []
+    -- "3 rows, only range id 1, start 0, end 2: row 0 is in 1, row 2 in none, the sequence column is 0, 0, 0."; row 0 at place
+    -- 0 (document 02)
+    ∷ sample (placedNumbers (tokenToSequence (ranged 1 0 2) 0)) (1 ∷ 0 ∷ [])
+    ∷ sample (placedNumbers (tokenToSequence (ranged 1 0 2) 2)) []
     ∷ sample (getSequenceIds (ranged 1 0 2)) (1 ∷ 0 ∷ 1 ∷ 0 ∷ 1 ∷ 0 ∷ [])
     ∷ []
 

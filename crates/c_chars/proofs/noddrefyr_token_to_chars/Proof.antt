@@ -1,4 +1,4 @@
--- `noddrefyr_token_to_chars` hands on what `lookup_chars::token_to_chars` answers. Assumes nothing.
+-- `noddrefyr_token_to_chars` hands on what `lookup_tokens::token_to_chars` answers. Assumes nothing.
 use mathlib.Core.Path.{refl}
 use Prim.Native.Nat.{ℕ}
 use mathlib.Core.List.{List}

@@ -3,7 +3,8 @@ use mathlib.Core.Path.{_≡_, sym, ap, _∙_}
 use denote.Ref.{now}
 use Rattle.lookup_search.specs.Contracts.{OfOne}
 use Rattle.lookup_search.specs.declared.TokenAnswer.{TokenAnswer}
-use Rattle.lookup_chars.specs.Chars.{charToToken, tokenToWord}
+use Rattle.lookup_tokens.specs.Tokens.{tokenToWord}
+use Rattle.lookup_chars.specs.Chars.{charToToken}
 use Rattle.lookup_chars.specs.Answers.{wordAnswer}
 use Rattle.lookup_chars.specs.Contracts.{wordAlone}
 use Rattle.lookup_chars.proofs.Answered.{tokenBack, token-back, token-granted, word-alone}

@@ -16,13 +16,13 @@ number-at-requires c κs = search needs
 noddrefyr-token-to-sequence-requires : tie.Need-noddrefyr-token-to-sequence-requires
 noddrefyr-token-to-sequence-requires c κs = search needs
 
-answered-two-requires : tie.Need-answered-two-requires
-answered-two-requires c κs = search needs
+answered-three-requires : tie.Need-answered-three-requires
+answered-three-requires c κs = search needs
 
 returns : tie.Need-returns
 returns c =
     let k = c .before .before in
-    rw (sym (k .before .before .number-at .ensures)) (told-crossed (c .answered-two .result) (start (k .before .before .before) .args .rest .now) 1 (k .noddrefyr-token-to-sequence .ensures) (c .answered-two .ensures))
+    rw (sym (k .before .before .number-at .ensures)) (told-crossed (c .answered-three .result) (start (k .before .before .before) .args .rest .now) 1 (k .noddrefyr-token-to-sequence .ensures) (c .answered-three .ensures))
 
 pub token-to-sequence-spec : {M : Type 1} → statement M
 token-to-sequence-spec =
@@ -30,5 +30,5 @@ token-to-sequence-spec =
     (tie.spec
     number-at-requires
     noddrefyr-token-to-sequence-requires
-    answered-two-requires
+    answered-three-requires
     returns)

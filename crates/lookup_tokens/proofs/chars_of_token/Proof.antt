@@ -5,17 +5,17 @@ use native.Mathlib.Omega.{arith}
 use lib.ListN.{length}
 use denote.Ref.{now}
 use Rattle.record.specs.Flat.{rowWidth}
-use Rattle.lookup_ranges.specs.Ranges.{tokenToSequence}
-use Rattle.lookup_ranges.specs.declared.Sequence.{Sequence}
+use Rattle.lookup_holding.specs.Holding.{tokenToSequence}
+use Rattle.lookup_holding.specs.declared.Sequence.{Sequence}
 use Rattle.lookup_search.specs.Contracts.{OfOne}
 use Rattle.lookup_ranges.proofs.Top.{top-there}
-use Rattle.lookup_chars.specs.Chars.{tokenToChars}
-use Rattle.lookup_chars.specs.Answers.{tokenCharsAnswer}
-use Rattle.lookup_chars.proofs.Answered.{sequenceBack, sequence-back}
-use Rattle.lookup_chars.proofs.CharsStored.{row-inside, of-past, of-unplaced, chars-stored}
+use Rattle.lookup_tokens.specs.Tokens.{tokenToChars}
+use Rattle.lookup_tokens.specs.Answers.{tokenCharsAnswer}
+use Rattle.lookup_tokens.proofs.Answered.{sequenceBack, sequence-back}
+use Rattle.lookup_tokens.proofs.TokensStored.{row-inside, of-past, of-unplaced, chars-stored}
 use borrow.Author.Needs.{needs}
-use Rattle.lookup_chars.proofs.chars_of_token.Statement.{statement}
-use Rattle.lookup_chars.proofs.chars_of_token.Tie as tie
+use Rattle.lookup_tokens.proofs.chars_of_token.Statement.{statement}
+use Rattle.lookup_tokens.proofs.chars_of_token.Tie as tie
 
 -- ---- The places that others look back to
 
@@ -29,7 +29,7 @@ else1 c = c .before .before .before .before .before
 inside : (c : tie.Else1) → let v = start c .args in v .token .0 * rowWidth + rowWidth ≤ length (now (v .rows))
 inside c = row-inside _ _ _ (start c .pre) (c .if1 .left)
 
--- its sequence, by the case of the answer
+-- its sequence and place, by the case of the answer
 placed : (c : tie.After-sequence-of) {a : Sequence} → c .sequence-of .result ≡ a →
     let v = start (c .before) .args in
     OfOne (now (v .nodes)) (now (v .rows)) (λ E. tokenToSequence E (v .token .0) ≡ sequenceBack a)
@@ -62,23 +62,23 @@ cast-at c = search needs
 mul-at : tie.Need-mul-at
 mul-at c = search needs
 
-add-t11 : tie.Need-add-t11
-add-t11 c = search needs
+add-start : tie.Need-add-start
+add-start c = search needs
 
-mul-t12 : tie.Need-mul-t12
-mul-t12 c = search needs
+mul-start : tie.Need-mul-start
+mul-start c = search needs
 
-shared-slice-read-t9 : tie.Need-shared-slice-read-t9
-shared-slice-read-t9 c = omega (arith, inside (else1 c))
+shared-slice-read-start : tie.Need-shared-slice-read-start
+shared-slice-read-start c = omega (arith, inside (else1 c))
 
-add-t15 : tie.Need-add-t15
-add-t15 c = search needs
+add-end : tie.Need-add-end
+add-end c = search needs
 
-mul-t16 : tie.Need-mul-t16
-mul-t16 c = search needs
+mul-end : tie.Need-mul-end
+mul-end c = search needs
 
-shared-slice-read-t18 : tie.Need-shared-slice-read-t18
-shared-slice-read-t18 c = omega (arith, inside (else1 (c .before)))
+shared-slice-read-end : tie.Need-shared-slice-read-end
+shared-slice-read-end c = omega (arith, inside (else1 (c .before)))
 
 returns-3 : tie.Need-returns-3
 returns-3 c = λ E one.
@@ -98,10 +98,10 @@ chars-of-token-spec =
     returns-2
     cast-at
     mul-at
-    add-t11
-    mul-t12
-    shared-slice-read-t9
-    add-t15
-    mul-t16
-    shared-slice-read-t18
+    add-start
+    mul-start
+    shared-slice-read-start
+    add-end
+    mul-end
+    shared-slice-read-end
     returns-3)

@@ -3,10 +3,10 @@ use mathlib.Core.Path.{sym, ap, _∙_}
 use native.Mathlib.Omega.{arith}
 use borrow.Author.Needs.{needs}
 use Rattle.record.proofs.One.{one-size}
-use Rattle.lookup_ranges.specs.Contracts.{sequenceFound}
-use Rattle.lookup_ranges.proofs.Ranges.{token-above, token-alone, token-first}
-use Rattle.lookup_ranges.proofs.sequence_of.Statement.{statement}
-use Rattle.lookup_ranges.proofs.sequence_of.Tie as tie
+use Rattle.lookup_holding.specs.Contracts.{sequenceFound}
+use Rattle.lookup_holding.proofs.Holding.{token-above, token-alone, token-first}
+use Rattle.lookup_holding.proofs.sequence_of.Statement.{statement}
+use Rattle.lookup_holding.proofs.sequence_of.Tie as tie
 
 -- ---- The places that others look back to
 

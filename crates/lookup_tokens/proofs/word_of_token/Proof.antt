@@ -5,17 +5,17 @@ use native.Mathlib.Omega.{arith}
 use lib.ListN.{length}
 use denote.Ref.{now}
 use Rattle.record.specs.Flat.{rowWidth}
-use Rattle.lookup_ranges.specs.Ranges.{tokenToSequence}
-use Rattle.lookup_ranges.specs.declared.Sequence.{Sequence}
+use Rattle.lookup_holding.specs.Holding.{tokenToSequence}
+use Rattle.lookup_holding.specs.declared.Sequence.{Sequence}
 use Rattle.lookup_search.specs.Contracts.{OfOne}
 use Rattle.lookup_ranges.proofs.Top.{top-there}
-use Rattle.lookup_chars.specs.Chars.{tokenToWord}
-use Rattle.lookup_chars.specs.Answers.{tokenWordAnswer}
-use Rattle.lookup_chars.proofs.Answered.{sequenceBack, sequence-back}
-use Rattle.lookup_chars.proofs.CharsStored.{row-inside, of-past, of-unplaced, word-unmarked, word-stored}
+use Rattle.lookup_tokens.specs.Tokens.{tokenToWord}
+use Rattle.lookup_tokens.specs.Answers.{tokenWordAnswer}
+use Rattle.lookup_tokens.proofs.Answered.{sequenceBack, sequence-back}
+use Rattle.lookup_tokens.proofs.TokensStored.{row-inside, of-past, of-unplaced, word-unmarked, word-stored}
 use borrow.Author.Needs.{needs}
-use Rattle.lookup_chars.proofs.word_of_token.Statement.{statement}
-use Rattle.lookup_chars.proofs.word_of_token.Tie as tie
+use Rattle.lookup_tokens.proofs.word_of_token.Statement.{statement}
+use Rattle.lookup_tokens.proofs.word_of_token.Tie as tie
 
 -- ---- The places that others look back to
 
@@ -26,7 +26,7 @@ start c = c .before .before .before .before
 inside : (c : tie.Else1) → let v = start c .args in v .token .0 * rowWidth + rowWidth ≤ length (now (v .rows))
 inside c = row-inside _ _ _ (start c .pre) (c .if1 .left)
 
--- its sequence, by the case of the answer
+-- its sequence and place, by the case of the answer
 placed : (c : tie.After-sequence-of) {a : Sequence} → c .sequence-of .result ≡ a →
     let v = start (c .before .before .before) .args in
     OfOne (now (v .nodes)) (now (v .rows)) (λ E. tokenToSequence E (v .token .0) ≡ sequenceBack a)
@@ -71,14 +71,14 @@ unfolding tokenToWord
 returns-3 c = λ E one.
     ap tokenWordAnswer (sym (of-unplaced one _ _ (placed (c .before .before) (c .enum-told .given .1) E one)))
 
-add-t11 : tie.Need-add-t11
-add-t11 c = search needs
+add-word : tie.Need-add-word
+add-word c = search needs
 
-mul-t12 : tie.Need-mul-t12
-mul-t12 c = search needs
+mul-word : tie.Need-mul-word
+mul-word c = search needs
 
-shared-slice-read-t9 : tie.Need-shared-slice-read-t9
-shared-slice-read-t9 c = omega (arith, inside (c .before .before .before .before .before .before .before))
+shared-slice-read-word : tie.Need-shared-slice-read-word
+shared-slice-read-word c = omega (arith, inside (c .before .before .before .before .before .before .before))
 
 returns-4 : tie.Need-returns-4
 returns-4 c = λ E one.
@@ -102,7 +102,7 @@ word-of-token-spec =
     enum-known-found
     enum-told
     returns-3
-    add-t11
-    mul-t12
-    shared-slice-read-t9
+    add-word
+    mul-word
+    shared-slice-read-word
     returns-4)

@@ -1,0 +1,3 @@
+pub mod Contracts
+pub mod Holding
+pub mod InSequence
