@@ -1,5 +1,5 @@
 // Which sequence holds a row, and the row's place in it, as the top node of an encoding says. The operations that check
-// their input first are in lookup_sequences and lookup_chars.
+// their input first are in lookup_sequences and lookup_tokens.
 ghost use mathlib.Core.Path.{_≡_};
 ghost use Prim.Native.Nat.{_≤_};
 ghost use lib.ListN.{length};

@@ -1,5 +1,5 @@
--- What the walks over rows ask and give, and of what the functions of lookup_words and lookup_chars speak that know the
--- record to be one encoding.
+-- What the walks over rows ask and give, and of what the functions of lookup_words, lookup_tokens and lookup_chars speak that
+-- know the record to be one encoding.
 -- Assumes nothing: these are definitions.
 use Prim.Native.Nat.{ℕ, _≤_}
 use mathlib.Core.Bool.{cond}
