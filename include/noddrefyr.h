@@ -202,15 +202,27 @@ uint32_t noddrefyr_merge(
     uint32_t *working_rows, size_t working_rows_len,
     size_t written[2]);
 
-/* A batch of one or two encodings cut to max_length rows together, from their left or their right ends, written to the
-   output one after the other; written is its nodes and its rows. Strategy 0 cuts the longest first, 1 only the first, any
-   other only the second. Refused with 1, 4, 5, 3, 2. */
-uint32_t noddrefyr_truncate_encodings(
+/* How many rows an encoding of first_rows rows and, if has_second, one of second_rows keep, so that they have at most max_length
+   together: kept is whether the first is cut and the rows it keeps, then the same of the second, zeros if it is missing. Strategy
+   0 cuts the longest first, 1 only the first, any other only the second. Refused with 4, 5. */
+uint32_t noddrefyr_pair_lengths(
+    uint32_t first_rows,
+    bool has_second,
+    uint32_t second_rows,
+    uint32_t max_length,
+    uint32_t strategy,
+    uint32_t kept[4]);
+
+/* A batch of one or two encodings, the first cut to first_length rows and the second, if has_second_length, to second_length, from
+   their left or their right ends, written to the output one after the other; written is its nodes and its rows. A length for a
+   missing second is passed over; a second without one stays whole. Refused with 1, 3, 2. */
+uint32_t noddrefyr_cut_pair(
     const uint32_t *nodes, size_t nodes_len,
     const uint32_t *rows, size_t rows_len,
-    uint32_t max_length,
+    uint32_t first_length,
+    bool has_second_length,
+    uint32_t second_length,
     uint32_t stride,
-    uint32_t strategy,
     bool left,
     uint32_t *out_nodes, size_t out_nodes_len,
     uint32_t *out_rows, size_t out_rows_len,

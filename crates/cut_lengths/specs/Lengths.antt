@@ -1,9 +1,14 @@
 -- How many rows each of a pair keeps (document 01, "Truncate pair": "the three strategies as written").
 -- Assumes nothing: these are definitions.
-use Prim.Native.Nat.{ℕ, _+_, _-_, _/_, _%_, max}
+use mathlib.Core.Path.{_≡_}
 use mathlib.Core.Bool.{cond}
+use mathlib.Core.Logic.{_⊎_}
+use Prim.Native.Nat.{ℕ, _+_, _-_, _/_, _%_, _<_, max}
+use mathlib.Core.Option.{Option, none as nothing, some}
 use lib.Dec.{leb, ltb, eqb}
-use Rattle.record.specs.Refusals.{numberOf}
+use lib.ListN.{length}
+use Rattle.record.specs.Tree.{Encoding}
+use Rattle.record.specs.declared.Refusal.{Refusal}
 use Rattle.record.specs.declared.Refusal.the-variants.{SecondMissing, TooShort}
 use Rattle.cut_lengths.specs.declared.Strategy.{Strategy}
 use Rattle.cut_lengths.specs.declared.Strategy.the-variants.{LongestFirst, OnlyFirst, OnlySecond}
@@ -57,19 +62,15 @@ abbrev pub keptLengths : ℕ → Second → ℕ → Strategy → Kept
 keptLengths first Missing most strategy = keptAlone first most strategy
 keptLengths first (Rows second) most strategy = keptBoth first second most strategy
 
--- ---- The answer as numbers: document 01's number, 0 where nothing is refused, and the rows kept
+-- the row count of the second encoding, if there is one
+abbrev pub rowsOfSecond : Option Encoding → Second
+rowsOfSecond nothing = Missing
+rowsOfSecond (some F) = Rows (length (F .rows))
 
-abbrev pub keptRefusal : Kept → ℕ
-keptRefusal (Refused k) = numberOf k
-keptRefusal (Alone n) = 0
-keptRefusal (Both n m) = 0
+-- ---- When they are refused
 
-abbrev pub firstKept : Kept → ℕ
-firstKept (Refused k) = 0
-firstKept (Alone n) = n
-firstKept (Both n m) = n
-
-abbrev pub secondKept : Kept → ℕ
-secondKept (Refused k) = 0
-secondKept (Alone n) = 0
-secondKept (Both n m) = m
+-- "4 and 5 only if something must be removed and the max length is not 0"
+pub record TurnedAway (rows most : ℕ) (why : Refusal) : Type 0 where
+  pub number : (why ≡ SecondMissing) ⊎ (why ≡ TooShort)
+  pub removed : most < rows
+  pub not-zero : 0 < most

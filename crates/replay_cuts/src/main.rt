@@ -16,7 +16,14 @@ use replay_program::NUMBERS;
 // Operation numbers, the first number of each case.
 const TRUNCATE: u32 = 16;
 
-const TRUNCATE_ENCODINGS: u32 = 20;
+const IN_TURN: u32 = 20;
+
+const PAIR_LENGTHS: u32 = 32;
+
+const CUT_PAIR: u32 = 33;
+
+// How many numbers are handed over for the lengths of a pair.
+const PAIR: usize = 5;
 
 fn main() {
     let mut piece = [0u8; PIECE];
@@ -82,7 +89,9 @@ fn replay(operation: u32, nodes: &[u32], rows: &[u32], rest: &[u32]) -> Outcome 
 fn answers_at(operation: u32) -> usize {
     match operation {
         TRUNCATE => 3,
-        TRUNCATE_ENCODINGS => 4,
+        IN_TURN => 4,
+        PAIR_LENGTHS => 0,
+        CUT_PAIR => 5,
         _ => usize::MAX,
     }
 }
@@ -91,7 +100,9 @@ fn answers_at(operation: u32) -> usize {
 fn run(operation: u32, nodes: &[u32], rows: &[u32], rest: &[u32], answers: &[u32]) -> Outcome {
     match operation {
         TRUNCATE => truncate(nodes, rows, rest, answers),
-        _ => truncate_encodings(nodes, rows, rest, answers),
+        IN_TURN => in_turn(nodes, rows, rest, answers),
+        PAIR_LENGTHS => pair_lengths(nodes, rows, answers),
+        _ => cut_pair(nodes, rows, rest, answers),
     }
 }
 
@@ -115,20 +126,62 @@ fn truncate(nodes: &[u32], rows: &[u32], rest: &[u32], answers: &[u32]) -> Outco
     replay_outputs::answered_whole(refusal, &counts, &out_nodes, &out_rows, answers)
 }
 
-// `20 nodes rows max-length stride strategy left refusal nodes rows out-nodes out-rows`
-fn truncate_encodings(nodes: &[u32], rows: &[u32], rest: &[u32], answers: &[u32]) -> Outcome {
+// `20 nodes rows max-length stride strategy left refusal nodes rows out-nodes out-rows`: the lengths of a pair and the cut to them
+fn in_turn(nodes: &[u32], rows: &[u32], rest: &[u32], answers: &[u32]) -> Outcome {
     let mut out_nodes = [BEFORE; OUTPUT];
     let mut out_rows = [BEFORE; OUTPUT];
     let mut counts = [BEFORE_COUNT; 2];
     let node_numbers = replay_outputs::nodes_lent(answers, &out_nodes);
     let row_numbers = replay_outputs::rows_lent(answers, &out_rows);
-    let refusal = c_cut::noddrefyr_truncate_encodings(
+    let refusal = replay_pair_call::in_turn(
         nodes,
         rows,
         replay_cases::number_at(rest, 0),
         replay_cases::number_at(rest, 1),
         replay_cases::number_at(rest, 2),
         replay_cases::number_at(rest, 3) == 1,
+        &mut out_nodes[..node_numbers],
+        &mut out_rows[..row_numbers],
+        &mut counts,
+    );
+    replay_outputs::answered_whole(refusal, &counts, &out_nodes, &out_rows, answers)
+}
+
+// `32 first-rows-has-second-second-rows-max-length-strategy nothing refusal first-cut first-kept second-cut second-kept`
+fn pair_lengths(pair: &[u32], nothing: &[u32], answers: &[u32]) -> Outcome {
+    if pair.len() != PAIR {
+        return Outcome::Bad;
+    }
+    if nothing.len() != 0 {
+        return Outcome::Bad;
+    }
+    let mut kept = [BEFORE; 4];
+    let refusal = c_lengths::noddrefyr_pair_lengths(
+        pair[0],
+        pair[1] == 1,
+        pair[2],
+        pair[3],
+        pair[4],
+        &mut kept,
+    );
+    replay_answers::answered_four(refusal, &kept, answers, 0)
+}
+
+// `33 nodes rows first-length has-second-length second-length stride left refusal nodes rows out-nodes out-rows`
+fn cut_pair(nodes: &[u32], rows: &[u32], rest: &[u32], answers: &[u32]) -> Outcome {
+    let mut out_nodes = [BEFORE; OUTPUT];
+    let mut out_rows = [BEFORE; OUTPUT];
+    let mut counts = [BEFORE_COUNT; 2];
+    let node_numbers = replay_outputs::nodes_lent(answers, &out_nodes);
+    let row_numbers = replay_outputs::rows_lent(answers, &out_rows);
+    let refusal = c_cut::noddrefyr_cut_pair(
+        nodes,
+        rows,
+        replay_cases::number_at(rest, 0),
+        replay_cases::number_at(rest, 1) == 1,
+        replay_cases::number_at(rest, 2),
+        replay_cases::number_at(rest, 3),
+        replay_cases::number_at(rest, 4) == 1,
         &mut out_nodes[..node_numbers],
         &mut out_rows[..row_numbers],
         &mut counts,

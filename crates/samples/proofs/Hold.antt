@@ -13,6 +13,7 @@ use Rattle.record.specs.Read.{fitsOk}
 use Rattle.record.specs.Outcome.{inRoom}
 use Rattle.cut_plan.specs.Cut.{rightFrom, leftFrom, windowsOf}
 use Rattle.cut_lengths.specs.Lengths.{keptBoth}
+use Rattle.pair_lengths.specs.Lengths.{pairLengths}
 use Rattle.truncate.specs.Truncate.{cutOutcome}
 use Rattle.truncate_write.specs.Truncated.{truncated}
 use Rattle.join_trees.specs.Join.{join, withEach, eachWith}
@@ -25,5 +26,5 @@ use Rattle.template_text.specs.Template.{readParts, readTemplate}
 use Rattle.samples.specs.Samples.{samples, Holds}
 
 pub hold : All Holds samples
-unfolding flatMap windowsOf rightFrom leftFrom keptBoth truncated cutOutcome inRoom fitsOk flatNodes flatRows rowNumbers rangeNumbers join withEach eachWith lettered letter sampleS sampleP sampleQ spelled spelledWindows firstFrom lastFrom until sequenceRange present nSequences holdingSequence placeIn tokenToSequence sequenceAt column getSequenceIds wordRows wordToTokens split decimalAfter afterSign readNumber same sequenceOf named pieceTyped readPart readParts readTemplate
+unfolding flatMap windowsOf rightFrom leftFrom keptBoth pairLengths truncated cutOutcome inRoom fitsOk flatNodes flatRows rowNumbers rangeNumbers join withEach eachWith lettered letter sampleS sampleP sampleQ spelled spelledWindows firstFrom lastFrom until sequenceRange present nSequences holdingSequence placeIn tokenToSequence sequenceAt column getSequenceIds wordRows wordToTokens split decimalAfter afterSign readNumber same sequenceOf named pieceTyped readPart readParts readTemplate
 hold = (refl, (refl, (refl, (refl, (refl, (refl, (refl, (refl, (refl, (refl, (refl, (refl, (refl, (refl, (refl, (refl, (refl, (refl, (refl, (refl, (refl, (refl, (refl, (refl, (refl, (refl, (refl, tt)))))))))))))))))))))))))))

@@ -1,4 +1,4 @@
--- Document 01's starred samples, all of them, four as document 02 changes them: one list, over the definitions that the operations promise.
+-- Document 01's starred samples, all of them, seven as document 02 changes them: one list, over the definitions that the operations promise.
 -- Assumes nothing: these are definitions. That every entry holds is `hold` of proofs/Hold.
 use mathlib.Core.Path.{_≡_}
 use mathlib.Core.Option.{Option, none as nothing, some}
@@ -17,11 +17,11 @@ use Rattle.record.specs.WellFormed.{nodesIn}
 use Rattle.record.specs.Refusals.{numberOf}
 use Rattle.record.specs.Outcome.{Outcome, refused, done}
 use Rattle.cut_plan.specs.Cut.{windowsOf}
-use Rattle.cut_lengths.specs.Lengths.{keptLengths, keptRefusal, firstKept, secondKept}
+use Rattle.pair_lengths.specs.Lengths.{pairLengths, lengthsRefusal, lengthsOr}
+use Rattle.pair_lengths.specs.declared.PairLengths.{PairLengths}
 use Rattle.cut_plan.specs.declared.Direction.the-variants.{Left, Right}
 use Rattle.cut_lengths.specs.declared.Strategy.the-variants.{LongestFirst}
 use Rattle.cut_lengths.specs.declared.Second.the-variants.{Rows}
-use Rattle.cut_lengths.specs.declared.Kept.{Kept}
 use Rattle.cut_windows.specs.Made.{plain}
 use Rattle.truncate.specs.Truncate.{cutOutcome}
 use Rattle.join_trees.specs.Join.{join}
@@ -91,9 +91,9 @@ nodeCount f = nodesIn f ∷ []
 abbrev pub flat : Forest → List ℕ
 flat f = flatNodes f ++ flatRows f
 
--- the rows kept of a pair
-abbrev pub keptNumbers : Kept → List ℕ
-keptNumbers k = keptRefusal k ∷ firstKept k ∷ secondKept k ∷ []
+-- of each of a pair whether it is cut and the rows it keeps, after 0; or the number of a refusal
+abbrev pub lengthsNumbers : PairLengths → List ℕ
+lengthsNumbers l = lengthsRefusal l ∷ lengthsOr [] l
 
 -- ---- The list
 
@@ -148,10 +148,11 @@ cutSamples =
 
 abbrev pub pairSamples : List Sample
 pairSamples =
-    -- "Longest first, max length 7: 10 and 10 give 3 and 4; 10 and 8 give 4 and 3; 2 and 10 give 2 and 5."
-    sample (keptNumbers (keptLengths 10 (Rows 10) 7 LongestFirst)) (0 ∷ 3 ∷ 4 ∷ [])
-    ∷ sample (keptNumbers (keptLengths 10 (Rows 8) 7 LongestFirst)) (0 ∷ 4 ∷ 3 ∷ [])
-    ∷ sample (keptNumbers (keptLengths 2 (Rows 10) 7 LongestFirst)) (0 ∷ 2 ∷ 5 ∷ [])
+    -- "Longest first, max length 7: 10 and 10 give 3 and 4; 10 and 8 give 4 and 3; 2 and 10 give 2 and 5.": all are cut but the
+    -- first of the last two (document 02)
+    sample (lengthsNumbers (pairLengths 10 (Rows 10) 7 LongestFirst)) (0 ∷ 1 ∷ 3 ∷ 1 ∷ 4 ∷ [])
+    ∷ sample (lengthsNumbers (pairLengths 10 (Rows 8) 7 LongestFirst)) (0 ∷ 1 ∷ 4 ∷ 1 ∷ 3 ∷ [])
+    ∷ sample (lengthsNumbers (pairLengths 2 (Rows 10) 7 LongestFirst)) (0 ∷ 0 ∷ 2 ∷ 1 ∷ 5 ∷ [])
     ∷ []
 
 -- 0, then kind, type, id start and id length of each piece; or the refusal's number, with the number and the place of the part at fault

@@ -1,3 +1,3 @@
 pub mod Pair
-pub mod Keeping
-pub mod Within
+pub mod Whole
+pub mod Cutting

@@ -14,7 +14,7 @@ use Rattle.record.proofs.Here.{here-nodes-fit, here-size}
 use Rattle.record_extent.specs.Size.{sizeOf}
 use Rattle.record_extent.specs.declared.Extent.{Extent}
 use Rattle.record_extent.proofs.Pair.{pair-here, second-here, second-ends}
-use Rattle.truncate_pair.specs.TruncatePair.{rowsOfSecond}
+use Rattle.cut_lengths.specs.Lengths.{rowsOfSecond}
 use Rattle.truncate_pair.specs.Contracts.{secondRowsAt}
 
 -- its row count is what stands there

@@ -1,2 +1,2 @@
-pub mod TruncatePair
+pub mod CutPair
 pub mod Contracts

@@ -1,33 +1,37 @@
-// Cutting one or two encodings to a number of rows together (document 01, "Truncate pair").
+// Cutting one or two encodings, each to a length of its own (document 02, request 07).
 ghost use mathlib.Core.Path.{_≡_};
 ghost use Rattle.record.specs.Outcome.{Writes};
 ghost use Rattle.record.specs.Read.{read};
-ghost use Rattle.truncate_pair.specs.Contracts.{secondRowsAt};
-ghost use Rattle.truncate_pair.specs.TruncatePair.{truncatePairOutcome};
-use cut_lengths::Kept;
+ghost use Rattle.truncate_pair.specs.Contracts.{secondRowsAt, lengthFor};
+ghost use Rattle.truncate_pair.specs.CutPair.{cutPairOutcome};
 use cut_lengths::Second;
-use cut_lengths::Strategy;
 use cut_plan::Direction;
 use record::Encoding;
 use record::Refusal;
 use record::Written;
 
-// One or two encodings, cut so that they have at most max_length rows together: which of them is cut, and to how many
-// rows, by the strategy. Each is cut as truncate cuts it.
-// Refuses 1 a malformed record or another number of encodings, 4 the second to be cut and missing, 5 the one to be cut
-// too short, 3 a stride of as many rows as either keeps or more, 2 no room.
-pub fn truncate_encodings(
+// To how many rows the second of a pair is cut, or that it stays whole.
+pub enum SecondLength {
+    Whole,
+    Rows(u32),
+}
+
+// One or two encodings, the first cut to first_length rows and the second, if there is one, to second_length, each as truncate
+// cuts it; a length for a missing second is passed over.
+// Refuses 1 a malformed record or another number of encodings, 3 a stride of as many rows as either is cut to or more, 2 no
+// room for both.
+pub fn cut_pair(
     nodes: &[u32],
     rows: &[u32],
-    max_length: u32,
+    first_length: u32,
+    second_length: SecondLength,
     stride: u32,
-    strategy: Strategy,
     direction: Direction,
     out_nodes: &mut [u32],
     out_rows: &mut [u32],
 ) -> Written
-    ensures { λ r. ⌜ Writes (truncatePairOutcome (now («out_nodes» .entry)) (now («out_rows» .entry)) «max_length» stride
-        strategy direction (read (now (nodes .entry)) (now (rows .entry)))) r (now («out_nodes» .entry))
+    ensures { λ r. ⌜ Writes (cutPairOutcome (now («out_nodes» .entry)) (now («out_rows» .entry)) «first_length»
+        «second_length» stride direction (read (now (nodes .entry)) (now (rows .entry)))) r (now («out_nodes» .entry))
         (now («out_rows» .entry)) (now («out_nodes» .exit)) (now («out_rows» .exit)) ⌝ }
 {
     if !record_check::is_one_or_two(nodes, rows) {
@@ -35,19 +39,26 @@ pub fn truncate_encodings(
     }
     let own = record_extent::measure(nodes, 0, 1);
     let second = second_rows(nodes, own.nodes * Encoding::NODE_WIDTH);
-    let kept = cut_lengths::kept_lengths(nodes[0], second, max_length, strategy);
-    match kept {
-        Kept::Refused(refusal) => Written::Refused(refusal),
-        Kept::Alone(n) => {
-            truncate::cut_one(nodes, rows, own, n, stride, direction, out_nodes, out_rows)
+    match second {
+        Second::Missing => {
+            truncate::cut_one(
+                nodes,
+                rows,
+                own,
+                first_length,
+                stride,
+                direction,
+                out_nodes,
+                out_rows,
+            )
         }
-        Kept::Both(n, m) => {
+        Second::Rows(n) => {
             truncate_two::cut_two(
                 nodes,
                 rows,
                 own,
-                n,
-                m,
+                first_length,
+                length_for(second_length, n),
                 stride,
                 direction,
                 out_nodes,
@@ -65,5 +76,15 @@ fn second_rows(nodes: &[u32], i: usize) -> Second
         Second::Rows(nodes[i])
     } else {
         Second::Missing
+    }
+}
+
+// The length for a second of so many rows: all of them where it stays whole, as a cut to all rows changes nothing.
+fn length_for(length: SecondLength, rows: u32) -> u32
+    ensures { λ r. ⌜ r ≡ lengthFor length rows ⌝ }
+{
+    match length {
+        SecondLength::Whole => rows,
+        SecondLength::Rows(n) => n,
     }
 }

@@ -13,7 +13,7 @@ use Rattle.record.specs.Read.{Reading, malformed, holds, oneOrTwo, ofOneOrTwo}
 use Rattle.record.specs.Outcome.{Outcome, refused, done, inRoom}
 use Rattle.record.specs.declared.Refusal.the-variants.{MalformedRecord, NoRoom, Stride}
 use Rattle.cut_plan.specs.Cut.{windowsOf, decisionOf}
-use Rattle.cut_lengths.specs.Lengths.{keptLengths}
+use Rattle.cut_lengths.specs.Lengths.{keptLengths, rowsOfSecond}
 use Rattle.record.specs.declared.Bounds.{Bounds}
 use Rattle.cut_plan.specs.declared.Direction.{Direction}
 use Rattle.cut_lengths.specs.declared.Strategy.{Strategy}
@@ -23,7 +23,7 @@ use Rattle.cut_lengths.specs.declared.Kept.{Kept}
 use Rattle.cut_lengths.specs.declared.Kept.the-variants.{Refused, Alone, Both}
 use Rattle.cut_plan.proofs.Laws.{Sized, windows-sized}
 use Rattle.cut_plan.proofs.Decides.{Says, decided}
-use Rattle.cut_lengths.proofs.Keeping.{AtMost, Answers, lengths-answer, lengths-at-most}
+use Rattle.cut_lengths.proofs.Sum.{Keeps, lengths-keep}
 use Rattle.record_extent.specs.Size.{sizeOf, roomy}
 use Rattle.record_extent.proofs.Room.{room-by-size}
 use Rattle.cut_windows.specs.Made.{stretchOf, gathered}
@@ -32,8 +32,8 @@ use Rattle.truncate.specs.Truncate.{cutOutcome}
 use Rattle.truncate_size.specs.Size.{strideRefused}
 use Rattle.truncate_write.specs.Truncated.{truncated}
 use Rattle.truncate_write.proofs.Sizes.{truncated-whole, truncated-emptied, truncated-cut, not-refused}
-use Rattle.truncate_pair.specs.TruncatePair.{rowsOfSecond, cutPairOutcome, unlessRefused, truncatePairOutcome}
 use Rattle.truncate_two.specs.CutBoth.{cutBothOutcome}
+use Rattle.truncate_in_turn.specs.TruncatePair.{cutKept, unlessRefused, truncatePairOutcome}
 
 -- ---- What a cut keeps
 
@@ -91,12 +91,13 @@ module _ (most : ℕ) (nodes rows : List ℕ) (stride : ℕ) (d : Direction) whe
       go false e true g = tt
       go false e false g = in-room-within most nodes rows _ (omega (arith, rows-kept n stride d E e, rows-kept m stride d F g))
 
-  kept-within : (E : Encoding) (second : Option Encoding) (k : Kept) → AtMost most k → Answers (rowsOfSecond second) k → Within most (unlessRefused (cutPairOutcome nodes rows stride d E second) k)
-  kept-within E second (Refused k) h a = tt
-  kept-within E nothing (Alone n) h a = one-within n E h
-  kept-within E (some F) (Alone n) h a = absurd a
-  kept-within E nothing (Both n m) h a = absurd a
-  kept-within E (some F) (Both n m) h a = both-within n m E F h
+  kept-within : (E : Encoding) (second : Option Encoding) (k : Kept) → Keeps (length (E .rows)) (rowsOfSecond second) most k → Within most (unlessRefused (cutKept nodes rows stride d E second) k)
+  kept-within E nothing (Refused k) h = tt
+  kept-within E nothing (Alone n) h = one-within n E (omega arith)
+  kept-within E nothing (Both n m) h = absurd h
+  kept-within E (some F) (Refused k) h = tt
+  kept-within E (some F) (Alone n) h = absurd h
+  kept-within E (some F) (Both n m) h = both-within n m E F (omega (arith, h .together))
 
   -- for every strategy and every batch
   pub outcome-within : (s : Strategy) (r : Reading) → Within most (truncatePairOutcome nodes rows most stride s d r)
@@ -104,10 +105,10 @@ module _ (most : ℕ) (nodes rows : List ℕ) (stride : ℕ) (d : Direction) whe
   outcome-within s malformed = tt
   outcome-within s (holds f) = go (listed f)
     where
-      of : (E : Encoding) (second : Option Encoding) → Within most (unlessRefused (cutPairOutcome nodes rows stride d E second) (keptLengths (length (E .rows)) (rowsOfSecond second) most s))
-      of E second = kept-within E second (keptLengths (length (E .rows)) (rowsOfSecond second) most s) (lengths-at-most (length (E .rows)) (rowsOfSecond second) most s) (lengths-answer (length (E .rows)) (rowsOfSecond second) most s)
+      of : (E : Encoding) (second : Option Encoding) → Within most (unlessRefused (cutKept nodes rows stride d E second) (keptLengths (length (E .rows)) (rowsOfSecond second) most s))
+      of E second = kept-within E second (keptLengths (length (E .rows)) (rowsOfSecond second) most s) (lengths-keep (length (E .rows)) (rowsOfSecond second) most s)
 
-      go : (l : List Encoding) → Within most (oneOrTwo (refused MalformedRecord) (λ E second. unlessRefused (cutPairOutcome nodes rows stride d E second) (keptLengths (length (E .rows)) (rowsOfSecond second) most s)) l)
+      go : (l : List Encoding) → Within most (oneOrTwo (refused MalformedRecord) (λ E second. unlessRefused (cutKept nodes rows stride d E second) (keptLengths (length (E .rows)) (rowsOfSecond second) most s)) l)
       go [] = tt
       go (E ∷ []) = of E nothing
       go (E ∷ F ∷ []) = of E (some F)

@@ -8,25 +8,18 @@ use Rattle.record.specs.Tree.{Encoding}
 use Rattle.record.specs.Read.{Reading, ofOneOrTwo}
 use Rattle.record.specs.Outcome.{Outcome, refused}
 use Rattle.record.specs.declared.Refusal.the-variants.{MalformedRecord}
-use Rattle.cut_lengths.specs.Lengths.{keptLengths}
+use Rattle.cut_lengths.specs.Lengths.{keptLengths, rowsOfSecond}
 use Rattle.cut_plan.specs.declared.Direction.{Direction}
 use Rattle.cut_lengths.specs.declared.Strategy.{Strategy}
-use Rattle.cut_lengths.specs.declared.Second.{Second}
-use Rattle.cut_lengths.specs.declared.Second.the-variants.{Missing, Rows}
 use Rattle.cut_lengths.specs.declared.Kept.{Kept}
 use Rattle.cut_lengths.specs.declared.Kept.the-variants.{Refused, Alone, Both}
 use Rattle.truncate.specs.Truncate.{cutOutcome}
 use Rattle.truncate_two.specs.CutBoth.{cutBothOutcome}
 
--- the row count of the second, if there is one
-abbrev pub rowsOfSecond : Option Encoding → Second
-rowsOfSecond nothing = Missing
-rowsOfSecond (some F) = Rows (length (F .rows))
-
 -- one encoding, of which n rows are kept, or two
-abbrev pub cutPairOutcome : List ℕ → List ℕ → ℕ → Direction → Encoding → Option Encoding → ℕ → ℕ → Outcome
-cutPairOutcome nodes rows stride d E nothing n m = cutOutcome nodes rows n stride d E
-cutPairOutcome nodes rows stride d E (some F) n m = cutBothOutcome nodes rows n m stride d E F
+abbrev pub cutKept : List ℕ → List ℕ → ℕ → Direction → Encoding → Option Encoding → ℕ → ℕ → Outcome
+cutKept nodes rows stride d E nothing n m = cutOutcome nodes rows n stride d E
+cutKept nodes rows stride d E (some F) n m = cutBothOutcome nodes rows n m stride d E F
 
 -- "4, 5": refused as the lengths kept are, or what o makes of them
 abbrev pub unlessRefused : (ℕ → ℕ → Outcome) → Kept → Outcome
@@ -40,5 +33,5 @@ unlessRefused o (Both n m) = o n m
 unfoldable pub truncatePairOutcome : List ℕ → List ℕ → ℕ → ℕ → Strategy → Direction → Reading → Outcome
 truncatePairOutcome nodes rows most stride s d r =
     ofOneOrTwo (refused MalformedRecord)
-    (λ E second. unlessRefused (cutPairOutcome nodes rows stride d E second) (keptLengths (length (E .rows)) (rowsOfSecond second) most s))
+    (λ E second. unlessRefused (cutKept nodes rows stride d E second) (keptLengths (length (E .rows)) (rowsOfSecond second) most s))
     r

@@ -1,0 +1,2 @@
+pub mod TruncatePair
+pub mod InTurn
