@@ -8,7 +8,7 @@ use std::path::{Path, PathBuf};
 use std::{env, fs};
 
 /// The functions, after `noddrefyr_`, in the order of the header.
-const ORDER: [&str; 29] = [
+const ORDER: [&str; 30] = [
     "check_batch",
     "from_tokens",
     "set_sequence_id",
@@ -27,7 +27,8 @@ const ORDER: [&str; 29] = [
     "truncate",
     "merge_with",
     "merge",
-    "truncate_encodings",
+    "pair_lengths",
+    "cut_pair",
     "pad",
     "pad_encodings",
     "read_template",

@@ -25,7 +25,7 @@ const PROGRAMS: [(&str, &[u32]); 11] = [
     ("replay_lookups", &[1, 2, 3, 4, 6, 7, 8, 9, 10, 11]),
     ("replay_texts", &[14, 15, 17]),
     ("replay_encodings", &[5, 12, 13]),
-    ("replay_cuts", &[16, 20]),
+    ("replay_cuts", &[16, 20, 32, 33]),
     ("replay_pads", &[21, 22, 31]),
     ("replay_joins", &[18]),
     ("replay_folds", &[19]),

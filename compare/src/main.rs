@@ -3,6 +3,7 @@
 //! A program of the repository is a module with a `Program`, and stands in `PROGRAMS`.
 mod bench;
 mod check_batch;
+mod cut_pair;
 mod inputs;
 mod lister;
 mod listing;
@@ -14,6 +15,7 @@ mod offsets;
 mod ours;
 mod outputs;
 mod padding;
+mod pair_lengths;
 mod pairs;
 mod processing;
 mod report;
@@ -58,7 +60,8 @@ fn operations() -> Vec<Operation> {
     let mut all = vec![check_batch::OPERATION];
     all.extend(lookups::OPERATIONS);
     all.extend([sequence_column::OPERATION, making::FROM_TOKENS, making::SET_SEQUENCE_ID, texts::TEXT, texts::SPAN, truncating::OPERATION]);
-    all.extend([merging::MERGE_WITH, merging::MERGE, pairs::OPERATION, padding::PAD, padding::PAD_ENCODINGS, rounding::OPERATION]);
+    all.extend([merging::MERGE_WITH, merging::MERGE, pairs::OPERATION, pair_lengths::OPERATION, cut_pair::OPERATION]);
+    all.extend([padding::PAD, padding::PAD_ENCODINGS, rounding::OPERATION]);
     all.extend([templates::OPERATION, validating::VALIDATE, validating::COUNT_ADDED, processing::OPERATION]);
     all.extend([offsets::BYTES_TO_CHARS, offsets::CHARS_TO_BYTES]);
     all.extend([reports::REPORT_ADD, reports::REPORT_SHARE]);

@@ -1,6 +1,6 @@
 //! The library under test: a safe function over each declaration that build.rs made from its source.
 use crate::offsets::Way;
-use tokenizers::bridge::Batch;
+use tokenizers::bridge::{Batch, NODE};
 
 mod bindings {
     include!(concat!(env!("OUT_DIR"), "/bindings.rs"));
@@ -81,14 +81,33 @@ impl Lent {
         }
     }
 
-    pub fn truncate_encodings(&mut self, b: &Batch, max_length: u32, stride: u32, strategy: u32, left: bool) -> u32 {
+    /// A second without a length is left whole.
+    pub fn cut_pair(&mut self, b: &Batch, first: u32, second: Option<u32>, stride: u32, left: bool) -> u32 {
         let (bn, br, n, r) = (&b.nodes, &b.rows, &mut self.out.nodes, &mut self.out.rows);
         let counts = self.counts.as_mut_ptr();
+        // what is handed over for a length that there is not is passed over
+        let (has_second, second) = (second.is_some(), second.unwrap_or(BEFORE));
         unsafe {
-            bindings::noddrefyr_truncate_encodings(
-                bn.as_ptr(), bn.len(), br.as_ptr(), br.len(), max_length, stride, strategy, left, n.as_mut_ptr(), n.len(), r.as_mut_ptr(), r.len(), counts,
+            bindings::noddrefyr_cut_pair(
+                bn.as_ptr(), bn.len(), br.as_ptr(), br.len(), first, has_second, second, stride, left, n.as_mut_ptr(), n.len(), r.as_mut_ptr(), r.len(), counts,
             )
         }
+    }
+
+    /// The lengths of a pair and the cut to them, in turn: a caller looks at 1 itself, before it asks for lengths. Where a second is
+    /// not cut its length may be left out.
+    pub fn cut_in_turn(&mut self, b: &Batch, max_length: u32, stride: u32, strategy: u32, left: bool, leave_out: bool) -> u32 {
+        let mut encodings = 0;
+        if check_batch(&b.nodes, &b.rows, &mut encodings) != 0 || !(1..=2).contains(&encodings) {
+            return 1;
+        }
+        let second = (encodings == 2).then(|| b.nodes[second_node(&b.nodes)]);
+        let (refusal, kept) = pair_lengths(b.nodes[0], second, max_length, strategy);
+        if refusal != 0 {
+            return refusal;
+        }
+        let handed = second.is_some() && !(leave_out && kept[2] == 0);
+        self.cut_pair(b, kept[1], handed.then_some(kept[3]), stride, left)
     }
 
     pub fn pad(&mut self, b: &Batch, length: u64, pad: Pad, added: &[u8]) -> u32 {
@@ -165,8 +184,36 @@ pub fn truncate(b: &Batch, max: u32, stride: u32, left: bool, nodes: usize, rows
     Lent::new(nodes, rows).told(|lent| lent.truncate(b, max, stride, left))
 }
 
-pub fn truncate_encodings(b: &Batch, max_length: u32, stride: u32, strategy: u32, left: bool, nodes: usize, rows: usize) -> Output {
-    Lent::new(nodes, rows).told(|lent| lent.truncate_encodings(b, max_length, stride, strategy, left))
+/// Where the node of the second encoding of a batch stands: after the first's node and all its windows.
+fn second_node(nodes: &[u32]) -> usize {
+    let (mut node, mut left) = (0, 1);
+    while left > 0 {
+        left += nodes[node + 1] as usize;
+        left -= 1;
+        node += NODE;
+    }
+    node
+}
+
+/// The second is missing, whatever is handed over as its row count, or has so many rows.
+pub fn pair_lengths(first: u32, second: Option<u32>, max_length: u32, strategy: u32) -> Answer {
+    let mut kept = vec![BEFORE; 4];
+    let refusal = pair_lengths_into(first, second, max_length, strategy, &mut kept);
+    (refusal, kept)
+}
+
+/// The same, in numbers that can be lent again and again.
+pub fn pair_lengths_into(first: u32, second: Option<u32>, max_length: u32, strategy: u32, kept: &mut [u32]) -> u32 {
+    assert_eq!(kept.len(), 4);
+    unsafe { bindings::noddrefyr_pair_lengths(first, second.is_some(), second.unwrap_or(BEFORE), max_length, strategy, kept.as_mut_ptr()) }
+}
+
+pub fn cut_pair(b: &Batch, first: u32, second: Option<u32>, stride: u32, left: bool, nodes: usize, rows: usize) -> Output {
+    Lent::new(nodes, rows).told(|lent| lent.cut_pair(b, first, second, stride, left))
+}
+
+pub fn cut_in_turn(b: &Batch, max_length: u32, stride: u32, strategy: u32, left: bool, leave_out: bool, nodes: usize, rows: usize) -> Output {
+    Lent::new(nodes, rows).told(|lent| lent.cut_in_turn(b, max_length, stride, strategy, left, leave_out))
 }
 
 /// What is added in padding, and on which side.

@@ -1,4 +1,5 @@
-//! truncate_encodings against the Rust's: every small pair with every max length and stride, the strategies, the limits.
+//! pair_lengths and cut_pair in turn against the Rust's truncate_encodings: every small pair with every max length and stride, the
+//! strategies, the limits. Each by itself is in pair_lengths.rs and cut_pair.rs.
 use crate::inputs::{self, chain, exact};
 use crate::ours::{self, Lent, Output, BEFORE};
 use crate::outputs::{output, outputs_around, stored};
@@ -12,8 +13,8 @@ use tokenizers::utils::truncation::{truncate_encodings, TruncationError, Truncat
 use tokenizers::{Encoding, TruncationDirection};
 
 pub const OPERATION: Operation = Operation {
-    name: "truncate_encodings",
-    format: "20 nodes rows max-length stride strategy left refusal nodes rows out-nodes out-rows (strategies: 0 longest first, 1 only first, 2 only second)",
+    name: "cut_in_turn",
+    format: "20 nodes rows max-length stride strategy left refusal nodes rows out-nodes out-rows (pair_lengths, then cut_pair; strategies: 0 longest first, 1 only first, 2 only second)",
     compare,
     store,
     bench: times,
@@ -38,27 +39,41 @@ fn params(cut: Cut) -> TruncationParams {
 }
 
 /// The encodings of a batch of one or two.
-fn one_or_two(b: &Batch) -> Option<(Encoding, Option<Encoding>)> {
+pub fn one_or_two(b: &Batch) -> Option<(Encoding, Option<Encoding>)> {
     matches!(wellformed::top_encodings(&b.nodes, &b.rows)?, 1 | 2).then(|| {
         let mut all = from_batch(&b.nodes, &b.rows).into_iter();
         (all.next().unwrap(), all.next())
     })
 }
 
-/// An error of the Rust's as a refusal. One of the two comes in a box of its own.
-fn refusal(e: &(dyn std::error::Error + 'static)) -> u32 {
-    match e.downcast_ref::<TruncationError>().or(e.downcast_ref::<Box<TruncationError>>().map(|e| &**e)) {
-        Some(TruncationError::SecondSequenceNotProvided) => 4,
-        Some(TruncationError::SequenceTooShort) => 5,
-        None => unreachable!("an error that truncate_encodings does not have"),
-    }
+/// An error of the Rust's as a refusal. One of the two comes in a box of its own. The given file is compiled twice, so that there
+/// are two types of errors.
+macro_rules! refusal {
+    ($error:ident, $e:expr) => {{
+        let e: &(dyn std::error::Error + 'static) = $e;
+        match e.downcast_ref::<$error>().or(e.downcast_ref::<Box<$error>>().map(|e| &**e)) {
+            Some($error::SecondSequenceNotProvided) => 4,
+            Some($error::SequenceTooShort) => 5,
+            None => unreachable!("an error that truncate_encodings does not have"),
+        }
+    }};
+}
+pub(crate) use refusal;
+
+/// Without what the Rust prints where it panics, as it does where a stride is refused.
+pub fn quietly<O>(work: impl FnOnce() -> O) -> O {
+    let hook = std::panic::take_hook();
+    std::panic::set_hook(Box::new(|_| {}));
+    let done = work();
+    std::panic::set_hook(hook);
+    done
 }
 
 /// The Rust's result, or the refusal: its two errors, and 3 where it panics.
 fn result(b: &Batch, cut: Cut) -> Result<Vec<Encoding>, u32> {
     let (first, second) = one_or_two(b).ok_or(1u32)?;
     let answer = catch_unwind(AssertUnwindSafe(|| truncate_encodings(first, second, &params(cut)))).map_err(|_| 3u32)?;
-    let (first, second) = answer.map_err(|e| refusal(&*e))?;
+    let (first, second) = answer.map_err(|e| refusal!(TruncationError, &*e))?;
     Ok([first].into_iter().chain(second).collect())
 }
 
@@ -75,8 +90,10 @@ fn case(t: &mut Tally, b: &Batch, cut: Cut, which: &[usize]) {
     let result = result(b, cut);
     for &i in which {
         let (nodes, rows) = outputs_around(result.as_deref().map_err(|k| *k))[i];
-        let got = ours::truncate_encodings(b, cut.max_length, cut.stride, cut.strategy, cut.left, nodes, rows);
         let want = expected(&result, nodes, rows, BEFORE);
+        // a second that is not cut is handed over with its length or without, by turns
+        let leave_out = cut.stride % 2 == 1;
+        let got = ours::cut_in_turn(b, cut.max_length, cut.stride, cut.strategy, cut.left, leave_out, nodes, rows);
         t.case(got == want, || (format!("ours gave refusal {}", got.refusal), line(b, cut, &want)));
     }
 }
@@ -97,9 +114,10 @@ fn rows_of(first: u32, second: Option<u32>) -> Batch {
 }
 
 fn compare(t: &mut Tally, r: &mut Rng, count: u64) {
-    // the Rust panics where a stride is refused; what it would print of that is left out
-    let hook = std::panic::take_hook();
-    std::panic::set_hook(Box::new(|_| {}));
+    quietly(|| all_cases(t, r, count));
+}
+
+fn all_cases(t: &mut Tally, r: &mut Rng, count: u64) {
     for first in 0..=40 {
         for code in 0..43 * 43 {
             all_ways(t, &rows_of(first, None), code / 43, code % 43, &[0]);
@@ -135,12 +153,13 @@ fn compare(t: &mut Tally, r: &mut Rng, count: u64) {
         all_ways(t, &exact(&[chain(levels), vec![(3, 0)]].concat()), 0, 0, &ALL);
         all_ways(t, &exact(&[vec![(3, 0)], chain(levels)].concat()), 0, 0, &ALL);
     }
-    std::panic::set_hook(hook);
 }
 
 fn store(r: &mut Rng) -> Vec<Stored> {
-    let hook = std::panic::take_hook();
-    std::panic::set_hook(Box::new(|_| {}));
+    quietly(|| all_stored(r))
+}
+
+fn all_stored(r: &mut Rng) -> Vec<Stored> {
     let mut out = vec![];
     for i in 0..24u32 {
         let b = random_batch(r, 1 + (i % 4 != 3) as u64, Size { levels: i as u64 % 2, windows: 2, rows: 6, offset: 40 });
@@ -150,7 +169,6 @@ fn store(r: &mut Rng) -> Vec<Stored> {
         out.push(Stored { what: format!("{cut:?}"), line: line(&b, cut, &expected(&result, nodes, rows, LENT)) });
     }
     out.extend([0, 1].map(unstarred));
-    std::panic::set_hook(hook);
     out
 }
 
@@ -172,7 +190,7 @@ fn times() {
         let max_length = [512, 768][strategy as usize];
         let cut = Cut { max_length, stride: 0, strategy, left: false };
         let mut lent = Lent::new(8 * NODE, 1_024 * ROW);
-        let ours = bench::alone(|| assert_eq!(lent.truncate_encodings(black_box(&b), max_length, 0, strategy, false), 0));
+        let ours = bench::alone(|| assert_eq!(lent.cut_in_turn(black_box(&b), max_length, 0, strategy, false, false), 0));
         let rust = bench::once(&(first.clone(), second.clone()), |(first, second)| truncate_encodings(first, second, &params(cut)).unwrap());
         let what = format!("pair of 512 and 512 rows cut to {max_length}, {}", ["longest first", "only first"][strategy as usize]);
         bench::row(&what, ours, "Rust", rust, "");
