@@ -10,7 +10,7 @@ use Rattle.pair_lengths.specs.Lengths.{pairLengths}
 use Rattle.pair_lengths.specs.Keeps.{KeepsLengths}
 use Rattle.pair_lengths.specs.declared.PairLengths.{PairLengths}
 use Rattle.pair_lengths.specs.declared.PairLengths.the-variants.{Refused, Alone, Both}
-use Rattle.pair_lengths.proofs.Keeps.{lengths-keep}
+use Rattle.pair_lengths.proofs.Keeps.{pair-lengths-keep}
 use Rattle.c_crossing.specs.Crossing.{Crosses}
 use Rattle.c_lengths.specs.Pair.{lengthsCrossed, keptSum, CrossesWithin}
 
@@ -21,4 +21,4 @@ sum-within was first second most (Both l m) h x z = rw (x .numbers-are) (omega (
 
 pub crosses-within : (was : List ℕ) (first : ℕ) (second : Second) (most : ℕ) (s : Strategy) {numbers : List ℕ} {r : ℕ} → Crosses (lengthsCrossed was (pairLengths first second most s)) r numbers → CrossesWithin was first second most s r numbers
 crosses-within was first second most s x =
-    record { crosses = x; within = sum-within was first second most (pairLengths first second most s) (lengths-keep first second most s) x }
+    record { crosses = x; within = sum-within was first second most (pairLengths first second most s) (pair-lengths-keep first second most s) x }

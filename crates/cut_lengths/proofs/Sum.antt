@@ -29,13 +29,13 @@ pub record KeepsBoth (first second most n m : ℕ) : Type 0 where
   pub second-no-more : m ≤ second
   pub together : n + m ≡ min (first + second) most
 
-abbrev pub Keeps : ℕ → Second → ℕ → Kept → Type 0
-Keeps first Missing most (Refused k) = TurnedAway first most k
-Keeps first Missing most (Alone n) = n ≡ min first most
-Keeps first Missing most (Both n m) = ⊥
-Keeps first (Rows second) most (Refused k) = TurnedAway (first + second) most k
-Keeps first (Rows second) most (Alone n) = ⊥
-Keeps first (Rows second) most (Both n m) = KeepsBoth first second most n m
+abbrev pub KeepsRows : ℕ → Second → ℕ → Kept → Type 0
+KeepsRows first Missing most (Refused k) = TurnedAway first most k
+KeepsRows first Missing most (Alone n) = n ≡ min first most
+KeepsRows first Missing most (Both n m) = ⊥
+KeepsRows first (Rows second) most (Refused k) = TurnedAway (first + second) most k
+KeepsRows first (Rows second) most (Alone n) = ⊥
+KeepsRows first (Rows second) most (Both n m) = KeepsBoth first second most n m
 
 -- ---- The longest first
 
@@ -55,17 +55,17 @@ shares n other most h o =
 -- ---- One encoding, and two
 
 module _ (first : ℕ) (second : Second) (most : ℕ) where
-  keeps : {k l : Kept} → k ≡ l → Keeps first second most l → Keeps first second most k
-  keeps e h = subst (Keeps first second most) (sym e) h
+  keeps : {k l : Kept} → k ≡ l → KeepsRows first second most l → KeepsRows first second most k
+  keeps e h = subst (KeepsRows first second most) (sym e) h
 
 away : {rows most : ℕ} {why : Refusal} → (why ≡ SecondMissing) ⊎ (why ≡ TooShort) → 0 < most → most < rows → TurnedAway rows most why
 away n p h = record { number = n; removed = h; not-zero = p }
 
-pub alone-keeps : (first most : ℕ) (s : Strategy) → Keeps first Missing most (keptAlone first most s)
+pub alone-keeps : (first most : ℕ) (s : Strategy) → KeepsRows first Missing most (keptAlone first most s)
 unfolding keptAlone
 alone-keeps first most s = go (eqb most 0) refl (leb first most) refl s
   where
-    cut : (s : Strategy) → 0 < most → most < first → Keeps first Missing most (cutAlone s first (first - most))
+    cut : (s : Strategy) → 0 < most → most < first → KeepsRows first Missing most (cutAlone s first (first - most))
     cut LongestFirst p h = omega arith
     cut OnlyFirst p h =
         ⊎-elim
@@ -74,16 +74,16 @@ alone-keeps first most s = go (eqb most 0) refl (leb first most) refl s
         (either first (first - most))
     cut OnlySecond p h = away (inl refl) p h
 
-    go : (a : Bool) → eqb most 0 ≡ a → (b : Bool) → leb first most ≡ b → (s : Strategy) → Keeps first Missing most (cond a (Alone 0) (cond b (Alone first) (cutAlone s first (first - most))))
+    go : (a : Bool) → eqb most 0 ≡ a → (b : Bool) → leb first most ≡ b → (s : Strategy) → KeepsRows first Missing most (cond a (Alone 0) (cond b (Alone first) (cutAlone s first (first - most))))
     go true z b e s = omega (arith, eqb-true most 0 z)
     go false z true e s = omega (arith, leb-true first most e)
     go false z false e s = cut s (pos-of-ne-zero (eqb-false most 0 z)) (leb-false first most e)
 
-pub both-keep : (first second most : ℕ) (s : Strategy) → Keeps first (Rows second) most (keptBoth first second most s)
+pub both-keep : (first second most : ℕ) (s : Strategy) → KeepsRows first (Rows second) most (keptBoth first second most s)
 unfolding keptBoth
 both-keep first second most s = go (eqb most 0) refl (leb (first + second) most) refl s
   where
-    cut : (s : Strategy) → 0 < most → most < first + second → Keeps first (Rows second) most (cutBoth s first second most (first + second - most))
+    cut : (s : Strategy) → 0 < most → most < first + second → KeepsRows first (Rows second) most (cutBoth s first second most (first + second - most))
     cut LongestFirst p h =
         ⊎-elim
         (λ (z : first ≤ second).
@@ -104,12 +104,12 @@ both-keep first second most s = go (eqb most 0) refl (leb (first + second) most)
         (λ (z : first + second - most < second). keeps first (Rows second) most (shortened-some second (first + second - most) (λ n. Both first n) z) (record { first-no-more = omega arith; second-no-more = omega arith; together = omega arith }))
         (either second (first + second - most))
 
-    go : (a : Bool) → eqb most 0 ≡ a → (b : Bool) → leb (first + second) most ≡ b → (s : Strategy) → Keeps first (Rows second) most (cond a (Both 0 0) (cond b (Both first second) (cutBoth s first second most (first + second - most))))
+    go : (a : Bool) → eqb most 0 ≡ a → (b : Bool) → leb (first + second) most ≡ b → (s : Strategy) → KeepsRows first (Rows second) most (cond a (Both 0 0) (cond b (Both first second) (cutBoth s first second most (first + second - most))))
     go true z b e s = record { first-no-more = omega arith; second-no-more = omega arith; together = omega (arith, eqb-true most 0 z) }
     go false z true e s = record { first-no-more = omega arith; second-no-more = omega arith; together = omega (arith, leb-true (first + second) most e) }
     go false z false e s = cut s (pos-of-ne-zero (eqb-false most 0 z)) (leb-false (first + second) most e)
 
-pub lengths-keep : (first : ℕ) (second : Second) (most : ℕ) (s : Strategy) → Keeps first second most (keptLengths first second most s)
+pub lengths-keep : (first : ℕ) (second : Second) (most : ℕ) (s : Strategy) → KeepsRows first second most (keptLengths first second most s)
 lengths-keep first Missing most s = alone-keeps first most s
 lengths-keep first (Rows second) most s = both-keep first second most s
 

@@ -9,7 +9,7 @@ use Rattle.cut_lengths.specs.declared.Second.the-variants.{Missing, Rows}
 use Rattle.pair_lengths.specs.declared.Length.{Length}
 use Rattle.pair_lengths.specs.declared.PairLengths.{PairLengths}
 use Rattle.pair_lengths.specs.declared.PairLengths.the-variants.{Refused, Alone, Both}
-use Rattle.pair_lengths.specs.Lengths.{rowsOf}
+use Rattle.pair_lengths.specs.Lengths.{secondRows}
 
 -- "how many rows each of a pair will keep": fewer than it has if it is cut, else all of them
 pub record Keeps (rows : ℕ) (l : Length) : Type 0 where
@@ -18,17 +18,17 @@ pub record Keeps (rows : ℕ) (l : Length) : Type 0 where
 
 -- what is said of each: one length for one encoding, two for two, or why there are none
 abbrev pub EachKeeps : ℕ → Second → ℕ → PairLengths → Type 0
-EachKeeps first second most (Refused k) = TurnedAway (first + rowsOf second) most k
+EachKeeps first second most (Refused k) = TurnedAway (first + secondRows second) most k
 EachKeeps first Missing most (Alone l) = Keeps first l
 EachKeeps first Missing most (Both l m) = ⊥
 EachKeeps first (Rows second) most (Alone l) = ⊥
 EachKeeps first (Rows second) most (Both l m) = Keeps first l × Keeps second m
 
 -- there are lengths
-abbrev pub Told : PairLengths → Type 0
-Told (Refused k) = ⊥
-Told (Alone l) = Unit {0}
-Told (Both l m) = Unit {0}
+abbrev pub WorkedOut : PairLengths → Type 0
+WorkedOut (Refused k) = ⊥
+WorkedOut (Alone l) = Unit {0}
+WorkedOut (Both l m) = Unit {0}
 
 -- the rows that are kept of all encodings; of a refusal none
 abbrev pub keptTogether : PairLengths → ℕ
@@ -41,6 +41,6 @@ pub record KeepsLengths (first : ℕ) (second : Second) (most : ℕ) (answer : P
   -- "The first also states that the kept lengths sum to at most the max length."
   pub at-most : keptTogether answer ≤ most
   -- to exactly that, where something is removed
-  pub exact : Told answer → most < first + rowsOf second → keptTogether answer ≡ most
+  pub exact : WorkedOut answer → most < first + secondRows second → keptTogether answer ≡ most
   -- "a total within it changes nothing"
-  pub whole : first + rowsOf second ≤ most → Told answer × (keptTogether answer ≡ first + rowsOf second)
+  pub whole : first + secondRows second ≤ most → WorkedOut answer × (keptTogether answer ≡ first + secondRows second)

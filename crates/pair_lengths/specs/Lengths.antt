@@ -19,15 +19,15 @@ abbrev pub lengthOf : ℕ → ℕ → Length
 lengthOf rows kept = record { cut = ltb kept rows; kept = kept }
 
 -- the rows of the second, none if it is missing
-abbrev pub rowsOf : Second → ℕ
-rowsOf Missing = 0
-rowsOf (Rows n) = n
+abbrev pub secondRows : Second → ℕ
+secondRows Missing = 0
+secondRows (Rows n) = n
 
 -- "which encodings are cut and to what": of each that there is
 abbrev pub lengthsOf : ℕ → Second → kept.Kept → PairLengths
 lengthsOf first second (kept.the-variants.Refused k) = Refused k
 lengthsOf first second (kept.the-variants.Alone n) = Alone (lengthOf first n)
-lengthsOf first second (kept.the-variants.Both n m) = Both (lengthOf first n) (lengthOf (rowsOf second) m)
+lengthsOf first second (kept.the-variants.Both n m) = Both (lengthOf first n) (lengthOf (secondRows second) m)
 
 -- "one operation works out from the two row counts (the second may be missing), max length and strategy which encodings are
 -- cut and to what": what document 01's pair cut keeps of them. "4 and 5 come from the first".

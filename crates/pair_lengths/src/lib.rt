@@ -1,7 +1,7 @@
 // Which encodings of a pair are cut, and to how many rows, before anything is cut (document 02, request 07). Every function
 // answers for all numbers of 32 bits.
 ghost use mathlib.Core.Path.{_≡_};
-ghost use Rattle.pair_lengths.specs.Lengths.{lengthOf, rowsOf, pairLengths};
+ghost use Rattle.pair_lengths.specs.Lengths.{lengthOf, secondRows, pairLengths};
 ghost use Rattle.pair_lengths.specs.Keeps.{KeepsLengths};
 use cut_lengths::Kept;
 use cut_lengths::Second;
@@ -32,7 +32,10 @@ pub fn pair_lengths(first: u32, second: Second, max_length: u32, strategy: Strat
     match kept {
         Kept::Refused(refusal) => PairLengths::Refused(refusal),
         Kept::Alone(n) => PairLengths::Alone(length_of(first, n)),
-        Kept::Both(n, m) => PairLengths::Both(length_of(first, n), length_of(rows_of(second), m)),
+        Kept::Both(n, m) => PairLengths::Both(
+            length_of(first, n),
+            length_of(second_rows(second), m),
+        ),
     }
 }
 
@@ -47,8 +50,8 @@ fn length_of(rows: u32, kept: u32) -> Length
 }
 
 // The rows of the second, none if it is missing.
-fn rows_of(second: Second) -> u32
-    ensures { λ r. ⌜ r ≡ rowsOf second ⌝ }
+fn second_rows(second: Second) -> u32
+    ensures { λ r. ⌜ r ≡ secondRows second ⌝ }
 {
     match second {
         Second::Missing => 0,

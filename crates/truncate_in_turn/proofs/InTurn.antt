@@ -13,7 +13,7 @@ use Rattle.cut_lengths.specs.Lengths.{keptLengths, rowsOfSecond}
 use Rattle.cut_lengths.specs.declared.Strategy.{Strategy}
 use Rattle.cut_lengths.specs.declared.Kept.{Kept}
 use Rattle.cut_lengths.specs.declared.Kept.the-variants.{Refused, Alone, Both}
-use Rattle.cut_lengths.proofs.Sum.{Keeps, lengths-keep}
+use Rattle.cut_lengths.proofs.Sum.{KeepsRows, lengths-keep}
 use Rattle.pair_lengths.specs.Lengths.{lengthsOf, pairLengths}
 use Rattle.truncate_pair.specs.CutPair.{cutEach, cutPairOutcome}
 use Rattle.truncate_in_turn.specs.TruncatePair.{cutKept, unlessRefused, truncatePairOutcome}
@@ -21,7 +21,7 @@ use Rattle.truncate_in_turn.specs.InTurn.{cutTo, bothInTurn}
 
 module _ (nodes rows : List ℕ) (most stride : ℕ) (s : Strategy) (d : Direction) where
   -- one encoding has one length, two have two, so that each is cut to what it keeps
-  kept-cut : (E : Encoding) (second : Option Encoding) (k : Kept) → Keeps (length (E .rows)) (rowsOfSecond second) most k →
+  kept-cut : (E : Encoding) (second : Option Encoding) (k : Kept) → KeepsRows (length (E .rows)) (rowsOfSecond second) most k →
       cutTo (λ n m. cutEach nodes rows n m stride d E second) (lengthsOf (length (E .rows)) (rowsOfSecond second) k) ≡ unlessRefused (cutKept nodes rows stride d E second) k
   kept-cut E nothing (Refused k) h = refl
   kept-cut E nothing (Alone n) h = refl

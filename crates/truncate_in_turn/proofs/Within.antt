@@ -23,7 +23,7 @@ use Rattle.cut_lengths.specs.declared.Kept.{Kept}
 use Rattle.cut_lengths.specs.declared.Kept.the-variants.{Refused, Alone, Both}
 use Rattle.cut_plan.proofs.Laws.{Sized, windows-sized}
 use Rattle.cut_plan.proofs.Decides.{Says, decided}
-use Rattle.cut_lengths.proofs.Sum.{Keeps, lengths-keep}
+use Rattle.cut_lengths.proofs.Sum.{KeepsRows, lengths-keep}
 use Rattle.record_extent.specs.Size.{sizeOf, roomy}
 use Rattle.record_extent.proofs.Room.{room-by-size}
 use Rattle.cut_windows.specs.Made.{stretchOf, gathered}
@@ -91,7 +91,7 @@ module _ (most : ℕ) (nodes rows : List ℕ) (stride : ℕ) (d : Direction) whe
       go false e true g = tt
       go false e false g = in-room-within most nodes rows _ (omega (arith, rows-kept n stride d E e, rows-kept m stride d F g))
 
-  kept-within : (E : Encoding) (second : Option Encoding) (k : Kept) → Keeps (length (E .rows)) (rowsOfSecond second) most k → Within most (unlessRefused (cutKept nodes rows stride d E second) k)
+  kept-within : (E : Encoding) (second : Option Encoding) (k : Kept) → KeepsRows (length (E .rows)) (rowsOfSecond second) most k → Within most (unlessRefused (cutKept nodes rows stride d E second) k)
   kept-within E nothing (Refused k) h = tt
   kept-within E nothing (Alone n) h = one-within n E (omega arith)
   kept-within E nothing (Both n m) h = absurd h

@@ -24,8 +24,8 @@ enum-known-kept-3 c = search needs
 length-of-requires-2 : tie.Need-length-of-requires-2
 length-of-requires-2 c κs = search needs
 
-rows-of-requires : tie.Need-rows-of-requires
-rows-of-requires c κs = search needs
+second-rows-requires : tie.Need-second-rows-requires
+second-rows-requires c κs = search needs
 
 length-of-requires-3 : tie.Need-length-of-requires-3
 length-of-requires-3 c κs = search needs
@@ -47,7 +47,7 @@ returns-3 c =
     let k = c .before .before .before .before .before .before in
     let v = k .before .args in
     answers (v .first) (v .second) (v .max-length) (v .strategy) (sym (c .before .before .before .before .kept3 .given .1) ∙ k .kept-lengths .ensures)
-    (ap₂ Both (c .before .before .length-of2 .ensures) (rw (c .before .rows-of .ensures) at (c .length-of3 .ensures)))
+    (ap₂ Both (c .before .before .length-of2 .ensures) (rw (c .before .second-rows .ensures) at (c .length-of3 .ensures)))
 
 pub pair-lengths-spec : {M : Type 1} → statement M
 pair-lengths-spec =
@@ -59,7 +59,7 @@ pair-lengths-spec =
     length-of-requires
     enum-known-kept-3
     length-of-requires-2
-    rows-of-requires
+    second-rows-requires
     length-of-requires-3
     returns
     returns-2

@@ -23,7 +23,7 @@ use Rattle.record_extent.proofs.Stands.{here-stands}
 use Rattle.record_extent.proofs.Pair.{first-here, few-held}
 use Rattle.pair_lengths.specs.Lengths.{pairLengths}
 use Rattle.pair_lengths.specs.declared.PairLengths.{PairLengths}
-use Rattle.pair_lengths.proofs.Keeps.{lengths-keep}
+use Rattle.pair_lengths.proofs.Keeps.{pair-lengths-keep}
 use Rattle.truncate_pair.specs.CutPair.{cutPairOutcome}
 use Rattle.truncate_pair.specs.declared.SecondLength.{SecondLength}
 use Rattle.truncate_pair.proofs.Pair.{second-at}
@@ -102,7 +102,7 @@ noddrefyr-pair-lengths-requires c κs = search needs
 returns-2 : tie.Need-returns-2
 returns-2 c =
     let p = c .before in
-    let d = turned-down _ _ _ _ (lengths p) (lengths-keep _ _ _ _ .each) (p .noddrefyr-pair-lengths .ensures .crosses) (c .if2 .taken) in
+    let d = turned-down _ _ _ _ (lengths p) (pair-lengths-keep _ _ _ _ .each) (p .noddrefyr-pair-lengths .ensures .crosses) (c .if2 .taken) in
     writes-out (writes-refused (d .why) (cut p ∙ ap (cutTo _) (d .is)) (d .leaves) refl refl refl) (d .number) refl
 
 array-read-noddrefyr-cut-pair : tie.Need-array-read-noddrefyr-cut-pair
@@ -129,7 +129,7 @@ returns-3 c =
     let v = start (m .before) .args in
     let i = m .measure .result .nodes * nodeWidth in
     let outcome : ℕ → SecondLength → Outcome = λ (n : ℕ) (k : SecondLength). cutPairOutcome (now (v .out-nodes)) (now (v .out-rows)) n k (v .stride) (directionOf (v .left)) (read (now (v .nodes)) (now (v .rows))) in
-    let h = handed-over _ (getD (now (v .nodes)) 0 0) (v .max-length) (ltb i (length (now (v .nodes)))) (after-number-at p .number-at .result) (lengths p) outcome (lengths-keep _ _ _ _ .each) (p .noddrefyr-pair-lengths .ensures .crosses) (e .if2 .left) in
+    let h = handed-over _ (getD (now (v .nodes)) 0 0) (v .max-length) (ltb i (length (now (v .nodes)))) (after-number-at p .number-at .result) (lengths p) outcome (pair-lengths-keep _ _ _ _ .each) (p .noddrefyr-pair-lengths .ensures .crosses) (e .if2 .left) in
     rw (cut p, h) (w .noddrefyr-cut-pair .ensures)
 
 pub in-turn-spec : {M : Type 1} → statement M
