@@ -152,7 +152,8 @@ fn store(r: &mut Rng) -> Vec<Stored> {
             for left in [false, true] {
                 let cut = Cut { first, second, stride, left };
                 let result = result(&b, cut);
-                let (nodes, rows) = outputs_around(result.as_deref().map_err(|k| *k))[[0, 1, 2, 3, 0][(i + left as usize) % 5]];
+                // from the right with just enough room, from the left with more or too little
+                let (nodes, rows) = outputs_around(result.as_deref().map_err(|k| *k))[if left { 1 + i % 3 } else { 0 }];
                 out.push(Stored { what: format!("{what}, {}", if left { "left" } else { "right" }), line: line(&b, cut, &expected(&result, nodes, rows, LENT)) });
             }
         }

@@ -52,7 +52,7 @@ macro_rules! refusal {
     ($error:ident, $e:expr) => {{
         let e: &(dyn std::error::Error + 'static) = $e;
         match e.downcast_ref::<$error>().or(e.downcast_ref::<Box<$error>>().map(|e| &**e)) {
-            Some($error::SecondSequenceNotProvided) => 4,
+            Some($error::SecondSequenceNotProvided) => 4u32,
             Some($error::SequenceTooShort) => 5,
             None => unreachable!("an error that truncate_encodings does not have"),
         }
