@@ -1,6 +1,8 @@
 // The C interface of the lookups between characters and rows. Each function returns the number of its refusal, 0 for none,
 // and gives its values through lent numbers, which a refusal leaves as they were. include/noddrefyr.h is made from this file
 // too.
+#![tactic(auto)]
+
 ghost use Rattle.c_chars.specs.Answers.{token_crossed, token_chars_crossed};
 ghost use Rattle.c_crossing.specs.Crossing.{Crosses};
 ghost use Rattle.lookup_chars.specs.Answers.{char_to_token_answer};

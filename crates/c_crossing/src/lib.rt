@@ -1,6 +1,8 @@
 // How answers cross the C interface: the number of a refusal, 0 for none, as the result, and values through lent numbers, which
 // a refusal leaves as they were, save those of a part at fault. The crates c_make to c_process have the functions that C calls; this
 // one has what they share.
+#![tactic(auto)]
+
 ghost use Rattle.std.specs.Prelude.{◌≡◌};
 ghost use Rattle.c_crossing.specs.Options.{direction_of, strategy_of};
 ghost use Rattle.record.specs.Outcome.{refusal_of, counts_or, fault_after};

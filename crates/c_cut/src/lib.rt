@@ -1,5 +1,7 @@
 // The C interface of truncation. Each function returns the number of its refusal, 0 for none, and gives its values through
 // lent numbers, which a refusal leaves as they were. include/noddrefyr.h is made from this file too.
+#![tactic(auto)]
+
 ghost use Rattle.std.specs.Prelude.{◌≡◌};
 ghost use Rattle.c_crossing.specs.Crossing.{WritesOut};
 ghost use Rattle.c_crossing.specs.Options.{direction_of};

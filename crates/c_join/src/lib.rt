@@ -1,5 +1,7 @@
 // The C interface of joining. Each function returns the number of its refusal, 0 for none, and gives its values through lent
 // numbers, which a refusal leaves as they were. include/noddrefyr.h is made from this file too.
+#![tactic(auto)]
+
 ghost use Rattle.c_crossing.specs.Crossing.{WritesOut, WritesOutWith};
 ghost use Rattle.join_trees.specs.Outcomes.{join_outcome, fold_outcome};
 ghost use Rattle.record.specs.Read.{read};

@@ -1,5 +1,7 @@
 // The C interface of the lengths of a pair. It returns the number of its refusal, 0 for none, and gives its values through lent
 // numbers, which a refusal leaves as they were. include/noddrefyr.h is made from this file too.
+#![tactic(auto)]
+
 ghost use Rattle.std.specs.Prelude.{◌≡◌};
 ghost use Rattle.c_crossing.specs.Options.{strategy_of};
 ghost use Rattle.c_lengths.specs.Pair.{second_of, CrossesWithin};

@@ -1,6 +1,8 @@
 // The C interface of the check of a batch and of making an encoding. Each function returns the number of its refusal, 0 for
 // none, and gives its values through lent numbers, which a refusal leaves as they were. include/noddrefyr.h is made from
 // this file too.
+#![tactic(auto)]
+
 ghost use Rattle.std.specs.Prelude.{◌≡◌};
 ghost use Rattle.c_crossing.specs.Crossing.{WritesOut};
 ghost use Rattle.record.specs.Read.{read};

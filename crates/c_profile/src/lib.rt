@@ -1,5 +1,7 @@
 // The C interface of the terminal profile. The function returns the number of its refusal, 0 for none, and gives its values
 // through lent numbers, which a refusal leaves as they were. include/noddrefyr.h is made from this file too.
+#![tactic(auto)]
+
 ghost use Rattle.c_crossing.specs.Crossing.{Crosses};
 ghost use Rattle.c_profile.specs.Answers.{profile_crossed};
 ghost use Rattle.profile_trees.specs.Profile.{profile_answer};

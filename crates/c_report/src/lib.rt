@@ -1,6 +1,8 @@
 // The C interface of reports. A report crosses as six numbers: encodings, windows, rows, padding, special, rest. Each function
 // returns the number of its refusal, 0 for none, and a refusal leaves what was lent as it was. include/noddrefyr.h is made from
 // this file too.
+#![tactic(auto)]
+
 ghost use Rattle.std.specs.Prelude.{◌≡◌};
 ghost use Rattle.c_crossing.specs.Crossing.{Crosses};
 ghost use Rattle.c_report.specs.Reports.{report_in, added_crossed, share_crossed};

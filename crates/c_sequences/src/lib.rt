@@ -1,5 +1,7 @@
 // The C interface of the lookups of sequences. Each function returns the number of its refusal, 0 for none, and gives its
 // values through lent numbers, which a refusal leaves as they were. include/noddrefyr.h is made from this file too.
+#![tactic(auto)]
+
 ghost use Rattle.std.specs.Prelude.{◌≡◌, length};
 ghost use Rattle.c_crossing.specs.Crossing.{Crosses};
 ghost use Rattle.c_sequences.specs.Answers.{range_crossed, count_crossed, sequence_crossed, column_crossed};

@@ -1,5 +1,7 @@
 // The C interface of text and span. Each function returns the number of its refusal, 0 for none, and gives its values
 // through lent numbers, which a refusal leaves as they were. include/noddrefyr.h is made from this file too.
+#![tactic(auto)]
+
 ghost use Rattle.c_crossing.specs.Crossing.{Crosses};
 ghost use Rattle.c_texts.specs.Answers.{text_crossed, span_crossed};
 ghost use Rattle.lookup_texts.specs.NodeSpan.{span_answer};

@@ -1,6 +1,8 @@
 // The C interface of the check of templates and of counting what they add. Each function returns the number of its refusal, 0
 // for none, and gives its values through lent numbers, which a refusal leaves as they were, but for a part at fault.
 // include/noddrefyr.h is made from this file too.
+#![tactic(auto)]
+
 ghost use Rattle.std.specs.Prelude.{[], ◌∷◌, ◌≡◌};
 ghost use Rattle.c_crossing.specs.Crossing.{Crosses};
 ghost use Rattle.c_validate.specs.Answers.{validity_crossed, added_crossed, added_fault};

@@ -1,5 +1,7 @@
 // The C interface of the lookups of words. Each function returns the number of its refusal, 0 for none, and gives its values
 // through lent numbers, which a refusal leaves as they were. include/noddrefyr.h is made from this file too.
+#![tactic(auto)]
+
 ghost use Rattle.c_crossing.specs.Crossing.{Crosses};
 ghost use Rattle.c_words.specs.Answers.{tokens_crossed, chars_crossed, token_word_crossed, word_crossed};
 ghost use Rattle.lookup_chars.specs.Answers.{char_to_word_answer};

@@ -1,4 +1,6 @@
 // The place of a character by its number, and a table of such places, for the way back.
+#![tactic(auto)]
+
 ghost use Rattle.std.specs.Prelude.{◌≡◌, ◌+◌, ◌≤◌, length, drop};
 ghost use Rattle.chars_back.specs.Promises.{nth_start, BackFillable, BackTabled};
 

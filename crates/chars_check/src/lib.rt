@@ -1,5 +1,7 @@
 // Whether a text is well-formed UTF-8 (RFC 3629): a block of bytes at a time, and by characters where a block has longer ones and behind the
 // last block.
+#![tactic(auto)]
+
 ghost use Rattle.std.specs.Prelude.{◌≡◌, ◌+◌, ◌≤◌, ◌<◌, length};
 ghost use Rattle.chars_text.specs.Characters.{well_formed};
 ghost use Rattle.chars_count.specs.Promises.{block_bytes, byte_largest};

@@ -1,4 +1,6 @@
 // Counting the bytes of a text that are no tails, which are the first bytes of its characters: a block of bytes at a time.
+#![tactic(auto)]
+
 ghost use Rattle.std.specs.Prelude.{◌≡◌, ◌-◌, ◌≤◌, length, take, drop};
 ghost use Rattle.chars_text.specs.Characters.{starts};
 ghost use Rattle.chars_count.specs.Promises.{byte_largest, start_of};

@@ -1,5 +1,7 @@
 // Places and characters of a text looked up one after another: from the last one on where the next is near, else from the table. Rows
 // mostly come in the order of the text, but any order is right.
+#![tactic(auto)]
+
 ghost use Rattle.std.specs.Prelude.{false, ◌≡◌, ◌≤◌, length, take};
 ghost use Rattle.chars_text.specs.Characters.{starts};
 ghost use Rattle.chars_places.specs.Promises.{Tabled, Marked};

@@ -1,5 +1,7 @@
 // A table of the places of a text, made once: at the beginning of every block how many characters there are before it, so that what is
 // left to count lies within one block.
+#![tactic(auto)]
+
 ghost use Rattle.std.specs.Prelude.{◌≤◌};
 ghost use Rattle.chars_places.specs.Promises.{Doubling, Grained, Fillable, Tabled};
 ghost use Rattle.chars_places.specs.Lengths.{text_largest};

@@ -1,5 +1,7 @@
 // Offsets looked up a stretch at a time: where every byte is a character's first, as in most of a log, places and characters go on
 // together, so that only the first offset of a stretch is counted.
+#![tactic(auto)]
+
 ghost use Rattle.std.specs.Prelude.{◌≤◌, length};
 ghost use Rattle.chars_text.specs.Characters.{starts};
 ghost use Rattle.chars_places.specs.Promises.{Tabled};

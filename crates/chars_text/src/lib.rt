@@ -1,4 +1,6 @@
 // Texts in UTF-8 (RFC 3629): the character at a place.
+#![tactic(auto)]
+
 ghost use Rattle.std.specs.Prelude.{◌≡◌, ◌+◌, ◌-◌, ◌≤◌, ◌<◌, length, drop, replicate};
 ghost use Rattle.chars_text.specs.Utf8.{tail, begins, character};
 ghost use Rattle.chars_text.specs.Promises.{width_by, low_by, high_by};

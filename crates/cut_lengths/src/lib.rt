@@ -1,4 +1,6 @@
 // How many rows each of a pair keeps (document 01, "Truncate pair"). Every function answers for all numbers of 32 bits.
+#![tactic(auto)]
+
 ghost use Rattle.std.specs.Prelude.{◌≡◌, ◌+◌, leb};
 ghost use Rattle.cut_lengths.specs.Lengths.{kept_lengths, kept_alone, kept_both, shorter_share, longer_share};
 

@@ -1,5 +1,7 @@
 // How an encoding is cut (document 01, module 4): whether it is, and the windows of the cut, each by its number.
 // Every function answers for all numbers of 32 bits; every start and end is at most the row count, so nothing passes them.
+#![tactic(auto)]
+
 ghost use Rattle.std.specs.Prelude.{◌≡◌, ◌+◌, ◌≤◌, min, length, get_or};
 ghost use Rattle.cut_plan.specs.Cut.{windows_of, bounds, decision_of};
 

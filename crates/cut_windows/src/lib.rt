@@ -1,4 +1,6 @@
 // The windows of a cut, written: each a stretch of an encoding's rows (document 01, "Truncate").
+#![tactic(auto)]
+
 ghost use Rattle.std.specs.Prelude.{List, [], ◌∷◌, map, ◌≡◌, ◌+◌, ◌≤◌, length};
 ghost use Rattle.std.proofs.lemmas.List.Edits.{sets};
 ghost use Rattle.cut_plan.specs.Cut.{windows_of};

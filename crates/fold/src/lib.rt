@@ -1,4 +1,6 @@
 // Fold of a batch (document 01, `merge`): its encodings joined one after another, from the empty encoding on.
+#![tactic(auto)]
+
 ghost use Rattle.join_trees.specs.Outcomes.{fold_outcome};
 ghost use Rattle.record.specs.Read.{read};
 ghost use Rattle.record.specs.Working.{WritesWith};

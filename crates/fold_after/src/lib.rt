@@ -1,4 +1,6 @@
 // The step of a fold whose second operand has its rows in the output (document 01, `merge`), by way of the working store.
+#![tactic(auto)]
+
 ghost use Rattle.fold_over.specs.Promises.{AskStep, WritesStep};
 ghost use Rattle.record.specs.Standing.{spot};
 

@@ -1,4 +1,6 @@
 // A fold without windows: the empty encoding that it goes on from, and an encoding joined in place (document 01, `merge`).
+#![tactic(auto)]
+
 ghost use Rattle.std.specs.Prelude.{[], ◌∷◌, ◌≡◌, ◌≤◌, length};
 ghost use Rattle.std.proofs.lemmas.List.Edits.{sets};
 ghost use Rattle.fold_append.specs.Promises.{AskAppend, Appends};

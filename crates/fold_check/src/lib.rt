@@ -1,4 +1,6 @@
 // Whether a fold can be done, and how much it takes: all that is decided before anything is written (document 01, `merge`).
+#![tactic(auto)]
+
 ghost use Rattle.fold_check.specs.Promises.{AskFoldSize, SizesFold, DecidesFold};
 
 use record::{Encoding, Refusal};

@@ -1,4 +1,6 @@
 // A fold, one encoding after another (document 01, `merge`): each is joined to the one in the output.
+#![tactic(auto)]
+
 ghost use Rattle.fold_each.specs.Promises.{AskFold, WritesFold};
 
 use join_view::View;

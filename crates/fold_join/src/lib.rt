@@ -1,5 +1,7 @@
 // A run of a fold, joined at once (document 01, `merge`): it is folded by itself and joined once to the encoding in the output, whose
 // windows are then copied once for the whole run and not for each encoding of it.
+#![tactic(auto)]
+
 ghost use Rattle.std.specs.Prelude.{List};
 ghost use Rattle.fold_join.specs.Promises.{AskRun, WritesRun};
 ghost use Rattle.record.specs.Tree.{Encoding as Tree};

@@ -1,4 +1,6 @@
 // The profile of the fold of a batch, found encoding by encoding and without building anything.
+#![tactic(auto)]
+
 ghost use Rattle.fold_levels.specs.Promises.{Held, MeasuresFold};
 ghost use Rattle.join_levels.specs.Levels.{ProfileOf};
 ghost use Rattle.record.specs.Tree.{empty};

@@ -1,4 +1,6 @@
 // What comes next in a fold (document 01, `merge`): one encoding, or a run of them that is joined at once.
+#![tactic(auto)]
+
 ghost use Rattle.fold_next.specs.Promises.{AskNext, FoldsNext};
 ghost use Rattle.record.specs.Tree.{Encoding as Tree, Forest};
 

@@ -1,4 +1,6 @@
 // The step of a fold by way of the working store, where windows are joined (document 01, `merge`).
+#![tactic(auto)]
+
 ghost use Rattle.fold_over.specs.Promises.{AskStep, WritesStep};
 
 use join_view::View;

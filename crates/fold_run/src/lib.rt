@@ -1,4 +1,6 @@
 // A run of a fold (document 01, `merge`): encodings without windows one after another.
+#![tactic(auto)]
+
 ghost use Rattle.fold_run.specs.Promises.{AskRunFrom, FindsRun};
 
 use record::Encoding;

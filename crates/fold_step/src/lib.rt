@@ -1,4 +1,6 @@
 // The step of a fold (document 01, `merge`): the encoding in the output joined with one more, seen through a view.
+#![tactic(auto)]
+
 ghost use Rattle.fold_over.specs.Promises.{AskStep, WritesStep};
 
 use join_view::View;

@@ -1,5 +1,7 @@
 // The fold of a batch, written: step by step into the output, a run of encodings without windows in one step where the output has
 // windows, and what refusal 6 leaves (document 01, `merge`).
+#![tactic(auto)]
+
 ghost use Rattle.fold_each.specs.Promises.{AskFold, WritesFold};
 ghost use Rattle.fold_write.specs.Promises.{ZeroedAll};
 ghost use Rattle.record.specs.Working.{Zeroed};

@@ -1,4 +1,6 @@
 // Fractions of whole numbers in lowest terms.
+#![tactic(auto)]
+
 ghost use Rattle.std.specs.Prelude.{◌≡◌};
 ghost use Rattle.fractions.specs.Fractions.{gcd_of, lowest_of};
 

@@ -2,6 +2,8 @@
 //
 // A read that fails is met in `not_read` alone: a line on standard error says so, and why, and no line is found after it, nor
 // one that it cut off. A program is a loop over `next_line`, or over `read_piece`.
+#![tactic(auto)]
+
 ghost use Rattle.std.specs.Prelude.{true, false, ◌≡◌};
 ghost use Rattle.io.specs.Counts.{IsPrefixLen};
 

@@ -1,5 +1,7 @@
 // The lines of an input that is read in pieces: what of a piece belongs to a line, and what a line turned out to be. Nothing is
 // read here; `input` reads.
+#![tactic(auto)]
+
 ghost use Rattle.std.specs.Prelude.{true, false, ◌≡◌, ◌≤◌};
 ghost use Rattle.io.specs.Counts.{IsPrefixLen};
 ghost use Rattle.input_lines.specs.Promises.{TakesBytes, Ended, NotEnded};

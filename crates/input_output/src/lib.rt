@@ -1,4 +1,6 @@
 // What reading and writing share, for programs: whether a call that moved nothing is made again.
+#![tactic(auto)]
+
 ghost use Rattle.std.specs.Prelude.{◌≡◌};
 ghost use Rattle.input_output.specs.Passing.{passes};
 

@@ -1,4 +1,6 @@
 // Join of two encodings (document 01, "Join"): checked, sized, and then written.
+#![tactic(auto)]
+
 ghost use Rattle.join.specs.Demand.{Called};
 
 use join_view::View;

@@ -1,4 +1,6 @@
 // Numbers added to numbers, one to one, from one lent slice into another.
+#![tactic(auto)]
+
 ghost use Rattle.std.specs.Prelude.{◌≡◌, ◌+◌, ◌≤◌, length, take, drop};
 ghost use Rattle.std.proofs.lemmas.List.Edits.{sets};
 ghost use Rattle.join_add.specs.Promises.{AskAdd, AskAddAt, AskSum, AddsRest, sums, sum_of, four_set};

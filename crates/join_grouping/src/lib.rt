@@ -1,5 +1,7 @@
 // Demand 3 of the request, run: three encodings joined from the left and from the right by four calls of `merge_with`, and what
 // both ways leave. It is a theorem about the code and no operation of document 01, so the C interface does not have it.
+#![tactic(auto)]
+
 ghost use Rattle.join_grouping.specs.Grouping.{BothWays};
 
 use record::Written;

@@ -1,5 +1,7 @@
 // The size of a join, found before anything is written and without building it, from the profiles of the two: the nodes
 // and the rows at each level.
+#![tactic(auto)]
+
 ghost use Rattle.std.specs.Prelude.{◌≡◌, false, ◌≤◌, leb};
 ghost use Rattle.join_table.specs.Table.{level_count, at, sum_below};
 ghost use Rattle.join_levels.specs.Levels.{Profiled};

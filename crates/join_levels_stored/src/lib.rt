@@ -1,5 +1,7 @@
 // The profile of a stored encoding, and of the fold of a batch, found in one pass over the nodes and without building
 // anything.
+#![tactic(auto)]
+
 ghost use Rattle.std.specs.Prelude.{◌≡◌, ℕ, ◌≤◌};
 ghost use Rattle.join_table.specs.Table.{level_count, at, sum_below};
 ghost use Rattle.join_levels.specs.Levels.{Profiled};

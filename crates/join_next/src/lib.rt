@@ -1,4 +1,6 @@
 // The second of two calls of `merge_with`, on what the first left in a store, unless that was refused. `join_three` makes the first.
+#![tactic(auto)]
+
 ghost use Rattle.join_next.specs.Promises.{StoreHolds, ThenLeft, ThenRight};
 
 use record::{Encoding, Written};

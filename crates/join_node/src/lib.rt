@@ -1,4 +1,6 @@
 // One node of a join: the node and the rows that joining two encodings writes before their windows (document 01, module 5).
+#![tactic(auto)]
+
 ghost use Rattle.join_node.specs.Promises.{AskNode, WritesNode};
 
 use join_view::View;

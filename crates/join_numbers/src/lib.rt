@@ -1,4 +1,6 @@
 // The numbers of one node of a join: its counts, and P's ranges laid over S's (document 01, module 5).
+#![tactic(auto)]
+
 ghost use Rattle.join_numbers.specs.Promises.{AskNumbers, WritesNumbers};
 
 use join_view::View;

@@ -4,6 +4,8 @@
 // Each encoding of a join, windows included, is one of S with one of P, and every such pair occurs. Its offsets are those
 // of the first, and those of the second moved on by the first's last offset end. So the largest is the largest last offset
 // end of S and the largest offset of P together; and the last offset ends add up from step to step.
+#![tactic(auto)]
+
 ghost use Rattle.std.specs.Prelude.{◌≡◌, true};
 ghost use Rattle.record.specs.Tree.{Forest, listed};
 ghost use Rattle.record.specs.WellFormed.{Stores};

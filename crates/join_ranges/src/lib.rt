@@ -1,4 +1,6 @@
 // The ranges of one node of a join: those of the second operand, seen and shifted, over those of the first.
+#![tactic(auto)]
+
 ghost use Rattle.std.specs.Prelude.{◌+◌, ◌≤◌, ◌<◌, length, set};
 ghost use Rattle.join_ranges.specs.Promises.{AskRange, LaysRange, whole_laid, MakesRanges, AskRanges, LaysRanges};
 ghost use Rattle.record.specs.Tree.{shifted, sequences};

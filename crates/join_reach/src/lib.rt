@@ -1,5 +1,7 @@
 // How far the offsets of rows and of encodings reach: the largest last offset end, the largest offset, and a bound of all
 // offsets that takes half the time.
+#![tactic(auto)]
+
 ghost use Rattle.std.specs.Prelude.{◌≡◌, List, ◌+◌, ◌*◌, ◌≤◌, ◌<◌, length};
 ghost use Rattle.record.specs.Flat.{row_width};
 ghost use Rattle.record.specs.Tree.{Row, Forest};

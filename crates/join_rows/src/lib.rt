@@ -1,4 +1,6 @@
 // The rows of one node of a join: those of the first operand, then those of the second, seen and moved on.
+#![tactic(auto)]
+
 ghost use Rattle.std.specs.Prelude.{List, map, ◌≡◌, ◌+◌, ◌*◌, ◌≤◌, length};
 ghost use Rattle.join_rows.specs.Promises.{AskMoved, MakesRows, moved_rows, AskOwn, WritesOwn};
 ghost use Rattle.join_trees.specs.Join.{base};

@@ -1,6 +1,8 @@
 // Rows copied with their offsets moved on, four rows at a time: to the numbers of four rows a block of numbers is added that
 // is 0 but for the offsets. That takes no more time than a plain copy, where a second pass over the copy takes half as much
 // again.
+#![tactic(auto)]
+
 ghost use Rattle.std.specs.Prelude.{◌≡◌};
 ghost use Rattle.join_shift.specs.Promises.{AskShift, Shifts, shifts};
 

@@ -1,4 +1,6 @@
 // How much a join takes, known before it is built, and what it leaves where it is refused with 6.
+#![tactic(auto)]
+
 ghost use Rattle.join_size.specs.Promises.{AskSize, SizesFor, AskJoinSize, SizesJoinFor};
 ghost use Rattle.record.specs.Working.{Zeroed};
 

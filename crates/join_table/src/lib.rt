@@ -1,4 +1,6 @@
 // What each level of a join has, from what the levels of its operands have, found by a table of every level with every level.
+#![tactic(auto)]
+
 ghost use Rattle.std.specs.Prelude.{◌≡◌, ℕ, suc, ◌+◌, ◌*◌, ◌^◌, ◌≤◌, length};
 ghost use Rattle.record.specs.WellFormed.{most_levels};
 ghost use Rattle.join_table.specs.Table.{level_count, at, joined_level, paired, spread};

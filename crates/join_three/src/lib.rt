@@ -1,5 +1,7 @@
 // Three encodings joined one way, by two calls of `merge_with`: from the left, or from the right. `join_grouping` goes both ways
 // (demand 3 of the request). No operation of document 01, so the C interface does not have it.
+#![tactic(auto)]
+
 ghost use Rattle.join_three.specs.Ways.{LeftWay, RightWay};
 
 use record::Written;

@@ -1,4 +1,6 @@
 // Join (`merge_with`) and fold (`merge`): what they are, on trees (specs/), and demand 3 (proofs/Grouping).
+#![tactic(auto)]
+
 ghost use Rattle.std.specs.Prelude.{◌≡◌, ◌≤◌};
 ghost use Rattle.join_trees.specs.Join.{window_count};
 ghost use Rattle.record.specs.WellFormed.{most_nodes};

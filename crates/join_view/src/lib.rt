@@ -1,4 +1,6 @@
 // How the second operand of a join is seen (document 01, modules 5 and 9).
+#![tactic(auto)]
+
 ghost use Rattle.std.specs.Prelude.{◌≡◌};
 ghost use Rattle.join_view.specs.View.{below};
 

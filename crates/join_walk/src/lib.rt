@@ -1,4 +1,6 @@
 // The walk over the windows of a stored encoding: the first, how many, and what follows one.
+#![tactic(auto)]
+
 ghost use Rattle.std.specs.Prelude.{◌≡◌, ◌+◌, ◌≤◌, length, get_or};
 ghost use Rattle.join_walk.specs.Promises.{AskDown, AskWalk, first_window, Follows};
 ghost use Rattle.record.specs.Flat.{node_width};

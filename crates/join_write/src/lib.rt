@@ -1,4 +1,6 @@
 // The join of two encodings, written: its node, then its windows, which are joins again (document 01, module 5).
+#![tactic(auto)]
+
 ghost use Rattle.join_write.specs.Promises.{AskJoin, WritesJoin, AskJoining, WritesJoining};
 ghost use Rattle.join_write.specs.Joins.{windowed, rowed};
 

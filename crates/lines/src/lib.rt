@@ -1,5 +1,7 @@
 // Reading decimal numbers from the bytes of a line, and gathering a line byte by byte, for the programs.
 // Numbers are written by `listing_text`, and where only a count is printed by the kit's `io`.
+#![tactic(auto)]
+
 ghost use Rattle.std.specs.Prelude.{◌≡◌, ◌+◌, min, length, set};
 ghost use Rattle.lines.specs.Decimal.{number_at};
 

@@ -1,4 +1,6 @@
 // The lines with which the window lister answers (document 01).
+#![tactic(auto)]
+
 ghost use Rattle.std.specs.Prelude.{[], ◌∷◌, ◌≡◌, ◌≤◌, length, get_or};
 ghost use Rattle.cut_plan.specs.Cut.{bounds};
 ghost use Rattle.listing_text.specs.Promises.{WroteText};

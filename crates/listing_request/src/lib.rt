@@ -1,4 +1,6 @@
 // What a line of the window lister asks (document 01).
+#![tactic(auto)]
+
 ghost use Rattle.std.specs.Prelude.{◌≡◌};
 ghost use Rattle.listing_request.specs.Asked.{field_at, cut_within, asked_of};
 

@@ -1,4 +1,6 @@
 // Texts and decimal numbers, put as bytes into an output: for what programs print.
+#![tactic(auto)]
+
 ghost use Rattle.std.specs.Prelude.{[], ◌∷◌, ◌++◌, ◌≡◌, ◌+◌, ◌≤◌, ◌<◌, length};
 ghost use Rattle.lines.specs.Decimal.{zero_byte};
 ghost use Rattle.listing_text.specs.Promises.{WroteText};

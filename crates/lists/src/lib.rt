@@ -1,4 +1,6 @@
 // Numbers in lent slices: copied, filled, widened, compared. What every room stands on, and nothing of the record.
+#![tactic(auto)]
+
 ghost use Rattle.std.specs.Prelude.{◌≡◌, ◌+◌, ◌≤◌, max, length, take, drop, replicate};
 ghost use Rattle.std.proofs.lemmas.List.Edits.{sets};
 ghost use Rattle.lists.specs.Lists.{zeros};

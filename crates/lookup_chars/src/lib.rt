@@ -1,5 +1,7 @@
 // The row of a character, and the word of a character (document 01, module 1): lookups of the Rust's encoding. Each reads the
 // top node of a batch of one encoding; any other batch is refused with 1, and nothing is a normal answer.
+#![tactic(auto)]
+
 ghost use Rattle.std.specs.Prelude.{true, ◌≡◌};
 ghost use Rattle.lookup_chars.specs.Answers.{word_answer, char_to_token_answer, char_to_word_answer};
 ghost use Rattle.lookup_chars.specs.Chars.{char_to_token, char_to_word};

@@ -1,5 +1,7 @@
 // Which sequence holds a row, and the row's place in it, as the top node of an encoding says. The operations that check
 // their input first are in lookup_sequences and lookup_tokens.
+#![tactic(auto)]
+
 ghost use Rattle.std.specs.Prelude.{◌≡◌, ◌≤◌, length};
 ghost use Rattle.lookup_holding.specs.Promises.{sequence_found, first_placed};
 ghost use Rattle.lookup_holding.specs.Holding.{token_to_sequence};

@@ -1,5 +1,7 @@
 // What the top node of an encoding says of its sequences: the rows of each, how many there are, and the sequence column.
 // The operations that check their input first are in lookup_sequences.
+#![tactic(auto)]
+
 ghost use Rattle.std.specs.Prelude.{List, ◌++◌, ◌≡◌, ℕ, ◌*◌, ◌≤◌, length, replicate};
 ghost use Rattle.lookup_ranges.specs.Promises.{Marks, ColumnFits, OfTop};
 ghost use Rattle.lookup_ranges.specs.Ranges.{sequence_range, present, n_sequences, get_sequence_ids};

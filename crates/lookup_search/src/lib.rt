@@ -1,5 +1,7 @@
 // The walks over the rows of a sequence: for the rows of a word, and for the row that holds a character. The operations
 // that check their input first are in lookup_words and lookup_chars.
+#![tactic(auto)]
+
 ghost use Rattle.std.specs.Prelude.{cond, ◌≡◌, ◌*◌, ◌≤◌, eqb, length};
 ghost use Rattle.lookup_ranges.specs.First.{first_from, part};
 ghost use Rattle.lookup_search.specs.Answers.{tokens_answer, token_answer};

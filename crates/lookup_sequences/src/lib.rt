@@ -1,5 +1,7 @@
 // The sequences of an encoding: the rows of each, how many there are, and which one a row is in. The record is a batch of
 // one encoding, of which these operations read the top node; any other is refused with 1.
+#![tactic(auto)]
+
 ghost use Rattle.std.specs.Prelude.{◌≡◌, length};
 ghost use Rattle.lookup_sequences.specs.Answers.{range_answer, sequence_count_answer, sequence_answer, sequence_ids, column_answer, column_left};
 ghost use Rattle.record.specs.Read.{read};

@@ -1,4 +1,6 @@
 // The span of some rows, in one pass over them (document 02, request 04).
+#![tactic(auto)]
+
 ghost use Rattle.std.proofs.Math.Option.{Option};
 ghost use Rattle.std.specs.Prelude.{◌≡◌, ◌+◌, ◌*◌, ◌≤◌, min, max, length, drop};
 ghost use Rattle.lookup_spans.specs.Seen.{seen_of};

@@ -1,5 +1,7 @@
 // The text of a row and the span of a node, in a batch of any number of encodings. Rows and nodes are numbered through
 // the whole batch, windows included, depth first.
+#![tactic(auto)]
+
 ghost use Rattle.std.specs.Prelude.{◌≡◌, ◌*◌, ◌≤◌, length};
 ghost use Rattle.lookup_texts.specs.Promises.{rows_before};
 ghost use Rattle.lookup_texts.specs.NodeSpan.{span_answer};

@@ -1,6 +1,8 @@
 // The characters and the word of a row, with its sequence and its place there (document 01, module 1; document 02, request
 // 06): lookups of the Rust's encoding. Each reads the top node of a batch of one encoding; any other batch is refused with
 // 1, and nothing is a normal answer.
+#![tactic(auto)]
+
 ghost use Rattle.std.specs.Prelude.{true, ◌≡◌};
 ghost use Rattle.lookup_search.specs.Promises.{OfOne};
 ghost use Rattle.lookup_tokens.specs.Answers.{token_chars_answer, token_word_answer, token_to_chars_answer, token_to_word_answer};

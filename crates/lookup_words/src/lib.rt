@@ -1,5 +1,7 @@
 // The rows and the characters of a word (document 01, module 1): lookups of the Rust's encoding. Each reads the top node
 // of a batch of one encoding; any other batch is refused with 1, and nothing is a normal answer.
+#![tactic(auto)]
+
 ghost use Rattle.std.specs.Prelude.{true, ◌≡◌, ◌+◌, ◌*◌, ◌≤◌, length, get_or};
 ghost use Rattle.std.proofs.Math.Option.{some};
 ghost use Rattle.lookup_search.specs.Answers.{tokens_answer};

@@ -1,4 +1,6 @@
 // Offsets converted from bytes to characters of a text, and back (document 02, request 01).
+#![tactic(auto)]
+
 ghost use Rattle.record.specs.Read.{read};
 ghost use Rattle.record.specs.Outcome.{Writes};
 ghost use Rattle.offsets_trees.specs.declared.Way.TheVariants.{ToCharacters, ToBytes};

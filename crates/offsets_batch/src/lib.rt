@@ -1,4 +1,6 @@
 // A batch with its offsets converted, written to an output that has room for it (document 02, request 01).
+#![tactic(auto)]
+
 ghost use Rattle.std.specs.Prelude.{◌≡◌};
 ghost use Rattle.std.proofs.lemmas.List.Edits.{sets};
 ghost use Rattle.chars_places.specs.Promises.{Doubling};

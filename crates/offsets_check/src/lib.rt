@@ -1,4 +1,6 @@
 // The first row of a batch with an offset that cannot be converted (document 02, request 01: 17 and 18).
+#![tactic(auto)]
+
 ghost use Rattle.std.specs.Prelude.{true, ◌≡◌, ◌+◌, ◌*◌, ◌≤◌, length, drop};
 ghost use Rattle.record.specs.Flat.{row_width, row_at};
 ghost use Rattle.record.specs.Read.{several};

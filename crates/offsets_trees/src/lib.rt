@@ -1,5 +1,6 @@
 // Offsets in bytes and in characters of a text (document 02, request 01): what converting them is, on trees (specs/), and that
 // converting there and back gives the batch (proofs/RoundTrips).
+#![tactic(auto)]
 
 // Which way offsets are converted.
 #[derive(Drop)]

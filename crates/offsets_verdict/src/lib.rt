@@ -1,4 +1,6 @@
 // Whether the offsets of a batch can be converted, decided before anything is written (document 02, request 01: 1, 16, 17, 18).
+#![tactic(auto)]
+
 ghost use Rattle.std.specs.Prelude.{true, ◌≡◌};
 ghost use Rattle.record.specs.Read.{read};
 ghost use Rattle.offsets_verdict.specs.Promises.{looked_at, rows_verdict};

@@ -1,4 +1,6 @@
 // The offsets of rows converted in place, by a table of their text (document 02, request 01).
+#![tactic(auto)]
+
 ghost use mathlib.Core.List.{◌++◌, map, flat_map};
 ghost use Rattle.std.specs.Prelude.{◌≡◌, ◌+◌, ◌-◌, ◌*◌, ◌≤◌, drop};
 ghost use Rattle.record.specs.Flat.{row_width, row_numbers, row_at};

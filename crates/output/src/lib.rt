@@ -1,5 +1,7 @@
 // Standard output for programs. What is written is a beginning of what was to be written: no byte is left out, and none follows
 // a write that failed. A program is to end at the first one that did.
+#![tactic(auto)]
+
 ghost use Rattle.output.specs.Promises.{WritesBytes, Digits};
 ghost use Rattle.std.specs.Prelude.{◌≤◌, length};
 

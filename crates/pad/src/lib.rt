@@ -1,4 +1,6 @@
 // Padding: rows added to encodings, their windows included, until each has a given number (document 01, modules 3 and 6).
+#![tactic(auto)]
+
 ghost use Rattle.std.specs.Prelude.{length};
 ghost use Rattle.pad.specs.Padding.{pad_outcome, pad_encodings_outcome};
 ghost use Rattle.record.specs.Outcome.{Writes};

@@ -1,4 +1,6 @@
 // What is known before padding writes anything: the length, the rows of the result, whether the pad text lies in its pool.
+#![tactic(auto)]
+
 ghost use Rattle.std.specs.Prelude.{◌≡◌, min};
 ghost use Rattle.pad_length.specs.Rounding.{rounded_up, largest_u64, RoundedLength};
 ghost use Rattle.pad_length.specs.Target.{longest, length_by, text_inside, rows_with};

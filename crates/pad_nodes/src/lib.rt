@@ -1,4 +1,6 @@
 // The node of a padded encoding, written: its row count, its window count and its ranges (document 01, "Pad").
+#![tactic(auto)]
+
 ghost use mathlib.Core.List.{flat_map, map};
 ghost use Rattle.std.specs.Prelude.{◌≡◌, ◌+◌, drop};
 ghost use Rattle.std.proofs.lemmas.List.Edits.{sets};

@@ -1,4 +1,6 @@
 // Encodings that are stored, padded, where the result has room (document 01, modules 3 and 6).
+#![tactic(auto)]
+
 ghost use Rattle.pad_write.specs.Padded.{padded};
 ghost use Rattle.record.specs.Outcome.{in_room, Writes};
 ghost use Rattle.record.specs.Tree.{Forest};

@@ -1,4 +1,6 @@
 // The rows of a padded encoding, written: new ones on one side of its own (document 01, "Pad").
+#![tactic(auto)]
+
 ghost use Rattle.std.specs.Prelude.{◌≡◌, ◌+◌, ◌*◌, ◌≤◌, length, take, drop};
 ghost use Rattle.std.proofs.lemmas.List.Edits.{sets};
 ghost use Rattle.pad_rows.specs.Promises.{pad_numbers};

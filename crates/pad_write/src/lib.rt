@@ -1,4 +1,6 @@
 // Padded encodings, written: each node with new rows on one side of its own (document 01, "Pad").
+#![tactic(auto)]
+
 ghost use Rattle.pad_write.specs.Promises.{AskPadded, Filled};
 ghost use Rattle.pad_write.specs.Padded.{padded};
 ghost use Rattle.record.specs.Tree.{Forest};

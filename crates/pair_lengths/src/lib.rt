@@ -1,5 +1,7 @@
 // Which encodings of a pair are cut, and to how many rows, before anything is cut (document 02, request 07). Every function
 // answers for all numbers of 32 bits.
+#![tactic(auto)]
+
 ghost use Rattle.std.specs.Prelude.{◌≡◌};
 ghost use Rattle.pair_lengths.specs.Lengths.{length_of, second_rows, pair_lengths};
 ghost use Rattle.pair_lengths.specs.Keeps.{KeepsLengths};

@@ -1,4 +1,6 @@
 // `process` with a template (document 01, module 9): encodings put together as a template's pieces say.
+#![tactic(auto)]
+
 ghost use Rattle.record.specs.Working.{WritesWith};
 ghost use Rattle.process_check.specs.Process.{process_outcome};
 

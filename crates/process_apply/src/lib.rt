@@ -1,4 +1,6 @@
 // The steps of a template taken one after another: measured, then written to the output (document 01, module 9).
+#![tactic(auto)]
+
 ghost use Rattle.process_apply.specs.Promises.{AskApply, Applies};
 
 use record::{Refusal, Spot, Written};

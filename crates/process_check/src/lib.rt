@@ -1,4 +1,6 @@
 // Whether `process` can be done, and by which steps: all that is decided before anything is written (document 01, module 9).
+#![tactic(auto)]
+
 ghost use Rattle.std.specs.Prelude.{◌≡◌, ◌*◌, length};
 ghost use Rattle.template_text.specs.Template.{most_parts, piece_width};
 ghost use Rattle.process_check.specs.Promises.{DecidesProcess};

@@ -1,4 +1,6 @@
 // The steps by which a template is applied, from its text and the special table (document 01, module 9).
+#![tactic(auto)]
+
 ghost use Rattle.std.specs.Prelude.{◌≡◌};
 ghost use Rattle.process_plan.specs.Promises.{step_of, step_answer, next_step, TableFits, AskPlan, Plans};
 

@@ -1,5 +1,7 @@
 // The rows of what a template's steps give where no encoding has windows: one node with all of them (document 01, refusal 2 of
 // process).
+#![tactic(auto)]
+
 ghost use Rattle.std.specs.Prelude.{◌≡◌, ◌/◌, ◌<◌, length};
 ghost use Rattle.template_entries.specs.Table.{entry_width};
 ghost use Rattle.template_entries.specs.Rows.{members_of};

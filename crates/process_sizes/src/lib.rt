@@ -1,4 +1,6 @@
 // What the result of a template's steps takes, known before it is built (document 01, refusal 2 of process).
+#![tactic(auto)]
+
 ghost use Rattle.join_levels.specs.Levels.{Profiled};
 ghost use Rattle.process_rows.specs.Promises.{AskSteps, AskAt};
 ghost use Rattle.process_sizes.specs.Promises.{SizesSteps, ProfileAt, ProfilesAlone, MeasuresAlone, AskStepSize, MeasuresStep, MeasuresSteps};

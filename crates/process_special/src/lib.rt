@@ -1,4 +1,6 @@
 // The rows of a special piece, joined to the encoding in the output: after the rows of each of its nodes (document 01, module 9).
+#![tactic(auto)]
+
 ghost use Rattle.std.specs.Prelude.{◌+◌, ◌*◌};
 ghost use Rattle.process_special.specs.Promises.{AskSpecial, AppendsSpecial};
 

@@ -1,4 +1,6 @@
 // A step by which a template is applied, in numbers (document 01, module 9).
+#![tactic(auto)]
+
 ghost use Rattle.std.specs.Prelude.{◌≡◌, ◌+◌, ◌*◌, ◌≤◌, length};
 ghost use Rattle.std.proofs.lemmas.List.Edits.{sets};
 ghost use Rattle.template_text.specs.Template.{piece_width};

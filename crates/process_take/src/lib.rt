@@ -1,4 +1,6 @@
 // One step of a template taken: what it speaks of, joined to the encoding in the output (document 01, module 9).
+#![tactic(auto)]
+
 ghost use Rattle.std.specs.Prelude.{◌≡◌};
 ghost use Rattle.process_steps.specs.Promises.{EntryThere};
 ghost use Rattle.process_take.specs.Promises.{AskTake, TakesStep};

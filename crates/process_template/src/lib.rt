@@ -1,5 +1,7 @@
 // The template that `process` uses: which of the two, and whether it can be used; and where the second encoding stands (document
 // 01, module 9).
+#![tactic(auto)]
+
 ghost use Rattle.std.specs.Prelude.{not, ◌&&◌, cond, ◌≡◌};
 ghost use Rattle.template_find.specs.Promises.{IdsInside};
 ghost use Rattle.process_template.specs.Promises.{OneOrTwoStored, SecondAt, ChecksTemplate, names_second};

@@ -1,4 +1,6 @@
 // The steps of a template taken one after another and written to the output (document 01, module 9).
+#![tactic(auto)]
+
 ghost use Rattle.process_write.specs.Promises.{AskWrite, WritesSteps};
 
 use record::Spot;

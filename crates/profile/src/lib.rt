@@ -1,4 +1,6 @@
 // The check of a batch against the terminal profile (document 02, request 08): plain records, as depot hosts accept them.
+#![tactic(auto)]
+
 ghost use Rattle.std.specs.Prelude.{◌≡◌};
 ghost use Rattle.profile_trees.specs.First.{Says};
 ghost use Rattle.profile_trees.specs.Profile.{profile_answer};

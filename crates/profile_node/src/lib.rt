@@ -1,5 +1,7 @@
 // The rules of the profile in one node, the first rule left aside (document 02, request 08): by its ranges, and in one pass over its
 // rows, stretch by stretch.
+#![tactic(auto)]
+
 ghost use Rattle.profile_node.specs.Promises.{NodeThere, SharedFound, RowsFound, NodeFound};
 
 use profile_trees::Break;

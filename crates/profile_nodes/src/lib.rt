@@ -1,4 +1,6 @@
 // The first break of the profile in a well-formed batch, node by node in one walk (document 02, request 08).
+#![tactic(auto)]
+
 ghost use Rattle.std.specs.Prelude.{◌≡◌};
 ghost use Rattle.profile_nodes.specs.Promises.{FirstFound, left_after};
 ghost use Rattle.record.specs.WellFormed.{Batch};

@@ -1,5 +1,7 @@
 // The first row of a node that lies in two of its ranges, told at once where the ranges come one after another in the order of their
 // ids, as they mostly do (document 02, request 08, the fifth rule).
+#![tactic(auto)]
+
 ghost use Rattle.std.specs.Prelude.{true, ◌≡◌, ℕ, ◌+◌, ◌≤◌, length, get_or};
 ghost use Rattle.profile_shared.specs.Promises.{FirstShared};
 ghost use Rattle.profile_trees.specs.Rules.{holders};

@@ -1,4 +1,6 @@
 // Whether a row breaks a rule on rows at all, told quickly (document 02, request 08): which one, `profile_row` says.
+#![tactic(auto)]
+
 ghost use Rattle.std.specs.Prelude.{◌&&◌, cond, ◌≡◌, ◌+◌, ◌≤◌, eqb, ltb, length, drop};
 ghost use Rattle.lists.specs.Lists.{one};
 ghost use Rattle.profile_quick.specs.Promises.{mask_rule};

@@ -1,4 +1,6 @@
 // How far the rows of a node from a row on lie in the same range (document 02, request 08, the sixth rule).
+#![tactic(auto)]
+
 ghost use Rattle.std.specs.Prelude.{ℕ, ◌+◌, ◌≤◌, ◌<◌, length, get_or};
 ghost use Rattle.profile_ranges.specs.Promises.{RowStretched};
 ghost use Rattle.record.specs.Flat.{node_width};

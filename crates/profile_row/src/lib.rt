@@ -1,4 +1,6 @@
 // The rules on rows, looked for in one row, and the last word after it (document 02, request 08).
+#![tactic(auto)]
+
 ghost use Rattle.std.specs.Prelude.{◌≡◌, ◌+◌, ◌≤◌, length, drop};
 ghost use Rattle.profile_row.specs.Promises.{lowest_rule, word_after};
 ghost use Rattle.record.specs.Flat.{row_width, row_at};

@@ -1,4 +1,6 @@
 // The rules on rows, looked for row by row in one pass over a stretch of them (document 02, request 08).
+#![tactic(auto)]
+
 ghost use Rattle.std.specs.Prelude.{◌+◌, ◌*◌, ◌≤◌, length};
 ghost use Rattle.profile_rows.specs.Promises.{Checked};
 ghost use Rattle.profile_trees.specs.Promises.{no_rule};

@@ -1,4 +1,6 @@
 // The first row of a node that lies in two of its ranges (document 02, request 08, the fifth rule).
+#![tactic(auto)]
+
 ghost use Rattle.std.specs.Prelude.{◌≡◌, ◌+◌, ◌≤◌, length, get_or};
 ghost use Rattle.profile_shared.specs.Promises.{FirstShared};
 ghost use Rattle.profile_trees.specs.Rules.{holders};

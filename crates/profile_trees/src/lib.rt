@@ -1,5 +1,7 @@
 // The profile of plain records that depot hosts accept (document 02, request 08): where a record breaks one of its six rules, and
 // what the check answers. The rules themselves are in specs/Rules.
+#![tactic(auto)]
+
 ghost use Rattle.std.proofs.Math.Option.{none as nothing};
 ghost use Rattle.std.specs.Prelude.{◌≡◌};
 ghost use Rattle.profile_trees.specs.Promises.{held};

@@ -1,5 +1,7 @@
 // The encoding record as it is lent (document 01): its widths, limits and columns, the refusals, the answer of the
 // operations that write.
+#![tactic(auto)]
+
 ghost use Rattle.std.specs.Prelude.{[], ◌∷◌, ◌≡◌};
 ghost use Rattle.record.specs.Flat.{node_width, row_width, flat_nodes};
 ghost use Rattle.record.specs.Refusals.{why_number, number_of, fault_of, fault_answer};

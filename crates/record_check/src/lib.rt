@@ -1,4 +1,6 @@
 // Whether two lent slices are a well-formed batch, decided in one pass over each, and how many encodings it has.
+#![tactic(auto)]
+
 ghost use Rattle.std.specs.Prelude.{◌≡◌};
 ghost use Rattle.record.specs.Read.{read, is_one, is_one_or_two};
 ghost use Rattle.record_check.specs.Answers.{shape_of};

@@ -1,4 +1,6 @@
 // How much a batch holds, windows included, and whether a result has room: what refusal 2 asks before anything is written.
+#![tactic(auto)]
+
 ghost use Rattle.std.specs.Prelude.{◌≡◌};
 ghost use Rattle.record.specs.Tree.{Forest};
 ghost use Rattle.record_extent.specs.Promises.{Stands, Few, with_node};

@@ -1,5 +1,7 @@
 // Whether the numbers of a node and of the rows are what they may be, apart from the tree: ranges within the rows, a pool
 // that there is, a word only where one is marked.
+#![tactic(auto)]
+
 ghost use Rattle.std.specs.Prelude.{◌≡◌, ◌+◌, ◌<◌, ◌≤◌, length};
 ghost use Rattle.record.specs.Flat.{node_width};
 ghost use Rattle.lists.specs.Lists.{Decides};

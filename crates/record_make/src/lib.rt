@@ -1,4 +1,6 @@
 // Making a record: from tokens, and with a sequence id set (document 01, module 1).
+#![tactic(auto)]
+
 ghost use Rattle.record.specs.Outcome.{Writes};
 ghost use Rattle.record.specs.Read.{read};
 ghost use Rattle.record_make.specs.Making.{from_tokens, set_sequence_id};

@@ -1,4 +1,6 @@
 // Whether a result has room, of which is known how much it takes: what refusal 2 asks before anything is written.
+#![tactic(auto)]
+
 ghost use Rattle.std.specs.Prelude.{◌≡◌};
 ghost use Rattle.record_room.specs.Room.{has_room};
 

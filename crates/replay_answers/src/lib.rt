@@ -1,4 +1,6 @@
 // Comparing what an operation gave with the stored answers of a case.
+#![tactic(auto)]
+
 ghost use Rattle.std.specs.Prelude.{◌∷◌, ◌≡◌, length, take};
 ghost use Rattle.lists.specs.Lists.{Decides};
 ghost use Rattle.replay_answers.specs.Promises.{Told, comparison};

@@ -1,4 +1,6 @@
 // Lists of a case as bytes: the texts that operations are lent, and comparing one with a list.
+#![tactic(auto)]
+
 ghost use Rattle.std.specs.Prelude.{◌≡◌};
 ghost use Rattle.lists.specs.Lists.{Decides};
 ghost use Rattle.replay_bytes.specs.Promises.{PutBytes, BytesAt, TextHeld, TextsHeld};

@@ -1,6 +1,8 @@
 // A stored case: the numbers of a line, and the lists that they hold.
 //
 // A line is decimal numbers with single spaces between them. A list within a case is its length, then its numbers.
+#![tactic(auto)]
+
 ghost use Rattle.std.specs.Prelude.{◌≡◌, length, get_or};
 ghost use Rattle.replay_cases.specs.Case.{no_list};
 ghost use Rattle.replay_cases.specs.Promises.{GatheredCase, PartAt, LastAt};

@@ -1,5 +1,7 @@
 // What a replay program prints: the cases on which an answer differs from the stored one, the lines that cannot be read, and at
 // the end a count: `cases` are those that were run, `bad` the lines that were not.
+#![tactic(auto)]
+
 ghost use Rattle.std.specs.Prelude.{◌≡◌};
 ghost use Rattle.replay_counts.specs.Counting.{more, Counted, Kept};
 

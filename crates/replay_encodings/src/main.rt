@@ -2,6 +2,8 @@
 // (`replay_program` says what a case is, `replay_outputs` what its answers are). The line above each function is its whole case.
 // To add one: its number, a case of `answers_at`, such a function, an arm of `run`, and its cases, which the comparison with
 // the Rust makes.
+#![tactic(auto)]
+
 ghost use Rattle.std.specs.Prelude.{length};
 ghost use Rattle.replay_program.specs.Promises.{Inside};
 

@@ -1,4 +1,6 @@
 // Numbers of 64 bits in a stored case, which has numbers of 32: each stands there as its low and its high 32 bits.
+#![tactic(auto)]
+
 ghost use Rattle.std.specs.Prelude.{◌≡◌, ◌/◌, ◌%◌, get_or};
 ghost use Rattle.replay_halves.specs.Halves.{high_worth, whole_of};
 

@@ -1,5 +1,7 @@
 // Replays the stored cases of the operation that joins two encodings, called through the C interface (`replay_program` says what
 // a case is, `replay_outputs` what its answers are). The line above its function is its whole case.
+#![tactic(auto)]
+
 ghost use Rattle.std.specs.Prelude.{◌≤◌, length};
 ghost use Rattle.replay_program.specs.Promises.{Inside};
 

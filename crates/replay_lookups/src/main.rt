@@ -2,6 +2,8 @@
 // gives is compared with the end of its case (`replay_program` says what a case is). The line above each function is its whole
 // case; those of a batch and its sequences stand in `replay_sequence_calls`. To add one: its number, such a function, an arm of
 // `replay`, and its cases, which the comparison with the Rust makes.
+#![tactic(auto)]
+
 ghost use Rattle.std.specs.Prelude.{length};
 ghost use Rattle.replay_program.specs.Promises.{Inside};
 

@@ -1,6 +1,8 @@
 // Replays the stored cases of the operations that convert offsets, each called through the C interface (`replay_program`
 // says what a case is, `replay_outputs` what its answers are). The line above each function is its whole case.
 // To add one: its number, such a function, an arm of `run`, and its cases, which the comparison makes.
+#![tactic(auto)]
+
 ghost use Rattle.std.specs.Prelude.{length};
 ghost use Rattle.replay_program.specs.Promises.{Inside};
 

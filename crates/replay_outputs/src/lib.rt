@@ -3,6 +3,8 @@
 //
 // The answers of such an operation are its refusal, the counts of nodes and rows, and all that stands in its output after the
 // call, as two lists. So many numbers are lent as these have.
+#![tactic(auto)]
+
 ghost use Rattle.std.specs.Prelude.{true, ◌≡◌, replicate};
 ghost use Rattle.lists.specs.Lists.{Decides};
 ghost use Rattle.replay_cases.specs.Case.{part_at};

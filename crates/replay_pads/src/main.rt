@@ -3,6 +3,8 @@
 // Lengths and multiples have 64 bits, and stand in a case as their low and their high 32 bits. The line above each function is
 // its whole case. To add one: its number, a case of `answers_at`, such a function, an arm of `run`, and its cases, which the
 // comparison with the Rust makes.
+#![tactic(auto)]
+
 ghost use Rattle.std.specs.Prelude.{length};
 ghost use Rattle.replay_program.specs.Promises.{Inside};
 

@@ -1,5 +1,7 @@
 // A caller of the C interface that cuts a pair: its lengths, then the cut to them, in turn, for the program `replay_cuts`. Its
 // promise is document 01's pair cut.
+#![tactic(auto)]
+
 ghost use Rattle.c_crossing.specs.Crossing.{WritesOut};
 ghost use Rattle.c_crossing.specs.Options.{direction_of, strategy_of};
 ghost use Rattle.record.specs.Read.{read};

@@ -1,5 +1,7 @@
 // Replays the stored cases of `process`, called through the C interface (`replay_program` says what a case is, `replay_outputs`
 // what its answers are). Its case is the line above `process`.
+#![tactic(auto)]
+
 ghost use Rattle.std.specs.Prelude.{length};
 ghost use Rattle.replay_program.specs.Promises.{Inside};
 

@@ -1,5 +1,7 @@
 // The call of `process` that a stored case asks for, through the C interface, and whether it did what is stored, for the program
 // `replay_process`.
+#![tactic(auto)]
+
 ghost use Rattle.std.specs.Prelude.{◌≡◌};
 ghost use Rattle.replay_outputs.specs.Promises.{Ends};
 ghost use Rattle.replay_process_call.specs.Promises.{FaultAs};

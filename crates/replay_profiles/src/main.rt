@@ -1,6 +1,8 @@
 // Replays the stored cases of the check against the terminal profile, called through the C interface (`replay_program` says what a
 // case is). The line above a function is its whole case. To add one: its number, such a function, an arm of `replay`, and its
 // cases, which the comparison makes.
+#![tactic(auto)]
+
 ghost use Rattle.std.specs.Prelude.{length};
 ghost use Rattle.replay_program.specs.Promises.{Inside};
 

@@ -4,6 +4,8 @@
 // single spaces between them. They are the operation's number, two lists (the nodes and the rows of a batch, the entries and
 // the members of a special table, or one list and nothing), what else the operation asks, and the expected answers; a list is
 // its length and then its numbers. The last line may lack its newline.
+#![tactic(auto)]
+
 ghost use Rattle.std.specs.Prelude.{◌≡◌, false, length};
 ghost use Rattle.io.specs.Counts.{IsPrefixLen};
 ghost use Rattle.replay_program.specs.Comments.{skips};

@@ -1,6 +1,8 @@
 // Replays the stored cases of the operations on reports, each called through the C interface (`replay_program` says what a case is).
 // The numbers of a report have 64 bits, and stand in a case as their low and their high 32 bits. The line above each function is its
 // whole case. To add one: its number, such a function, an arm of `replay`, and its cases, which the comparison makes.
+#![tactic(auto)]
+
 ghost use Rattle.std.specs.Prelude.{length};
 ghost use Rattle.replay_program.specs.Promises.{Inside};
 

@@ -1,5 +1,7 @@
 // The calls that stored cases of a batch and of its sequences ask for, through the C interface, and whether each gave what is
 // stored, for the program `replay_lookups`. `rest` is what follows the nodes and the rows in a case.
+#![tactic(auto)]
+
 ghost use Rattle.std.specs.Prelude.{[], ◌∷◌, get_or, replicate};
 ghost use Rattle.record.specs.Read.{read};
 ghost use Rattle.record_check.specs.Answers.{shape_of};

@@ -1,5 +1,7 @@
 // The call of `read_template` that a stored case asks for, through the C interface, and whether it gave what is stored, for the
 // program `replay_templates`. `rest` is what follows the two lists that a case begins with.
+#![tactic(auto)]
+
 ghost use Rattle.std.specs.Prelude.{◌∷◌, ◌≡◌};
 ghost use Rattle.replay_template_call.specs.Promises.{StoredPieces, reading_of, fault_told};
 

@@ -2,6 +2,8 @@
 // case is). Texts and the added pool are lists of bytes, and the line above each function is its whole case; the one that reads a
 // template stands in `replay_template_call`. To add one: its number, such a function, an arm of `replay`, and its cases, which
 // the comparison with the Rust makes.
+#![tactic(auto)]
+
 ghost use Rattle.std.specs.Prelude.{length};
 ghost use Rattle.replay_program.specs.Promises.{Inside};
 

@@ -1,6 +1,8 @@
 // Replays the stored cases of the operations that number rows and nodes through the whole batch: texts and spans
 // (`replay_program` says what a case is). The line above each function is its whole case. To add one: its number, such a
 // function, an arm of `replay`, and its cases, which the comparison with the Rust makes.
+#![tactic(auto)]
+
 ghost use Rattle.std.specs.Prelude.{length};
 ghost use Rattle.replay_program.specs.Promises.{Inside};
 

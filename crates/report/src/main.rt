@@ -4,6 +4,8 @@
 // What stands in the input is told by `report_input` and `report_held`, whatever the pieces in which it is read, and what is printed
 // are bytes of `report_lines`. `input` reads and `output` writes. After a read that failed nothing is printed: standard error has
 // a line.
+#![tactic(auto)]
+
 ghost use Rattle.std.specs.Prelude.{◌≡◌, ◌<◌, take as List·take};
 ghost use Rattle.io.specs.Counts.{IsPrefixLen};
 ghost use Rattle.report_held.specs.Promises.{LentStores, Partial};

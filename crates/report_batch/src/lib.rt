@@ -1,4 +1,6 @@
 // A batch added to a report (document 02, request 03).
+#![tactic(auto)]
+
 ghost use Rattle.std.specs.Prelude.{◌≡◌, ◌+◌, leb};
 ghost use Rattle.record.specs.Read.{read};
 ghost use Rattle.report_trees.specs.Report.{summed, largest_total, totalled, add_answer};

@@ -1,4 +1,6 @@
 // What is held of the input of the report program while it comes in pieces (document 02, request 03), and what is told at its end.
+#![tactic(auto)]
+
 ghost use Rattle.std.specs.Prelude.{List, [], ◌≡◌, ℕ, ◌≤◌, ◌<◌, min, length};
 ghost use Rattle.report_held.specs.Input.{most_stored, report_of};
 ghost use Rattle.report_held.specs.Promises.{resumed, LentStores, Partial, TakesNext, Arrived, Settles};

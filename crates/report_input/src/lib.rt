@@ -1,5 +1,7 @@
 // The input of the report program, taken piece by piece as it is read (document 02, request 03). Whatever the pieces, what is told
 // in the end is what `report_of` says of all bytes together.
+#![tactic(auto)]
+
 ghost use Rattle.std.specs.Prelude.{◌<◌, length};
 ghost use Rattle.report_held.specs.Promises.{LentStores, Partial};
 ghost use Rattle.report_input.specs.Promises.{Moves, Feeds};

@@ -1,4 +1,6 @@
 // What the report program prints (document 02, request 03), as bytes.
+#![tactic(auto)]
+
 ghost use Rattle.std.specs.Prelude.{[], ◌∷◌, ◌++◌, ◌+◌, ◌*◌, ◌≤◌, length};
 ghost use Rattle.listing_text.specs.Promises.{WroteText};
 ghost use Rattle.listing_text.specs.Text.{long_digits, long_text};

@@ -1,4 +1,6 @@
 // The rows of a batch by their kinds, counted in one pass (document 02, request 03).
+#![tactic(auto)]
+
 ghost use Rattle.std.specs.Prelude.{◌&&◌, not, ◌≡◌, ◌*◌, ◌≤◌, eqb, length};
 ghost use Rattle.record.specs.Flat.{row_width, row_at};
 ghost use Rattle.record.specs.Read.{several};

@@ -1,4 +1,6 @@
 // The share of padding in a report (document 02, request 03).
+#![tactic(auto)]
+
 ghost use Rattle.std.specs.Prelude.{◌≡◌};
 ghost use Rattle.report_trees.specs.Report.{share_of};
 

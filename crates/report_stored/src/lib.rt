@@ -1,4 +1,6 @@
 // A batch as the report program reads it (document 02, request 03): its node count, its row count, its nodes and its rows, in words.
+#![tactic(auto)]
+
 ghost use Rattle.std.specs.Prelude.{◌≡◌, ◌-◌, ◌*◌, ◌≤◌, length, take, drop};
 ghost use Rattle.record.specs.Flat.{row_width, node_width};
 ghost use Rattle.record.specs.Read.{read};

@@ -1,4 +1,6 @@
 // One report over many batches (document 02, request 03): its six totals, and what adding a batch answers.
+#![tactic(auto)]
+
 ghost use Rattle.std.specs.Prelude.{◌≡◌};
 ghost use Rattle.report_trees.specs.Report.{empty_report};
 

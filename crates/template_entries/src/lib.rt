@@ -1,4 +1,6 @@
 // The entries and members of the special table (document 01, module 8): that their numbers lie in order.
+#![tactic(auto)]
+
 ghost use Rattle.std.specs.Prelude.{◌≡◌, ◌+◌, ◌/◌, ◌<◌, length, get_or};
 ghost use Rattle.record.specs.Read.{all_ok};
 ghost use Rattle.template_entries.specs.Table.{no_entry, entry_width, entries_in, members_in, entry_ok, member_ok, agrees};

@@ -1,4 +1,6 @@
 // The entry of an id in the special table (document 01, module 8).
+#![tactic(auto)]
+
 ghost use Rattle.std.specs.Prelude.{◌≡◌, get_or};
 ghost use Rattle.lookup_ranges.specs.First.{last_from};
 ghost use Rattle.template_entries.specs.Table.{no_entry, entries_in};

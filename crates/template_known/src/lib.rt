@@ -1,4 +1,6 @@
 // Whether the special ids of templates are in the table (document 01, module 8).
+#![tactic(auto)]
+
 ghost use Rattle.template_find.specs.Promises.{IdsInside};
 ghost use Rattle.template_known.specs.Promises.{KnownIn, KnownBoth};
 

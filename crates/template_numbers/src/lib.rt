@@ -1,4 +1,6 @@
 // The numbers in a template text: a u32 as Rust reads it (document 01, module 7).
+#![tactic(auto)]
+
 ghost use Rattle.std.specs.Prelude.{◌≡◌};
 ghost use Rattle.template_numbers.specs.Number.{read_number, number_answer};
 ghost use Rattle.template_numbers.specs.Promises.{SignPassed};

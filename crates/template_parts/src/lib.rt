@@ -1,4 +1,6 @@
 // The parts of a template text, which single spaces part, and the place in it (document 01, module 7).
+#![tactic(auto)]
+
 ghost use Rattle.std.specs.Prelude.{◌≡◌, ◌≤◌, length};
 ghost use Rattle.template_parts.specs.Parts.{parts, part_step_at};
 ghost use Rattle.template_parts.specs.Promises.{FoundFrom};

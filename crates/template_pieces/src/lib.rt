@@ -1,4 +1,6 @@
 // The piece that a part of a template is (document 01, module 7), and the numbers in it.
+#![tactic(auto)]
+
 ghost use Rattle.std.proofs.Math.Option.{map};
 ghost use Rattle.std.specs.Prelude.{◌≡◌, ◌+◌, ◌≤◌};
 ghost use lib.ListN.{length, take, drop};

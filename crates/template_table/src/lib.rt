@@ -1,4 +1,6 @@
 // The check of a special table (document 01, module 8).
+#![tactic(auto)]
+
 ghost use Rattle.std.specs.Prelude.{◌≡◌, ◌/◌};
 ghost use Rattle.template_entries.specs.Table.{read_table};
 ghost use Rattle.template_table.specs.Check.{table_answer};

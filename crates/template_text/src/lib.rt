@@ -1,4 +1,6 @@
 // Reading a template text, and the text that is used where none is set (document 01, modules 7 and 8).
+#![tactic(auto)]
+
 ghost use Rattle.std.specs.Prelude.{cond, ◌≡◌, ◌≤◌, length};
 ghost use Rattle.template_text.specs.Template.{read_template, short, unread, template_of};
 ghost use Rattle.template_text.specs.Comes.{comes_at, fault_in};

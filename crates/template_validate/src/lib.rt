@@ -1,4 +1,6 @@
 // Checking a pair of templates against a special table, and counting the tokens that a template adds (document 01, module 8).
+#![tactic(auto)]
+
 ghost use Rattle.std.specs.Prelude.{◌≡◌};
 ghost use Rattle.template_validate.specs.Validation.{refused_in, of_validity, validate_answer, count_answer};
 

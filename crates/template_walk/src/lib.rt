@@ -1,4 +1,6 @@
 // Walks over the pieces of a template text: which sequences it names, and how many tokens it adds (document 01, module 8).
+#![tactic(auto)]
+
 ghost use Rattle.std.specs.Prelude.{◌||◌, ◌≡◌, eqb};
 ghost use Rattle.template_find.specs.Promises.{IdsInside};
 ghost use Rattle.template_text.specs.Template.{read_template};

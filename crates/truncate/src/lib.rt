@@ -1,4 +1,6 @@
 // Cutting one encoding to a number of rows (document 01, "Truncate").
+#![tactic(auto)]
+
 ghost use Rattle.record.specs.Outcome.{Writes};
 ghost use Rattle.record.specs.Read.{read};
 ghost use Rattle.truncate.specs.Promises.{AskOne, Becomes};

@@ -1,4 +1,6 @@
 // Two encodings where they stand, each cut and written, one after the other (document 01, "Truncate pair").
+#![tactic(auto)]
+
 ghost use Rattle.truncate_both.specs.Promises.{AskTwo, MakesTwo};
 
 use cut_plan::Direction;

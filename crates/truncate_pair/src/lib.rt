@@ -1,4 +1,6 @@
 // Cutting one or two encodings, each to a length of its own (document 02, request 07).
+#![tactic(auto)]
+
 ghost use Rattle.std.specs.Prelude.{◌≡◌};
 ghost use Rattle.record.specs.Outcome.{Writes};
 ghost use Rattle.record.specs.Read.{read};

@@ -1,4 +1,6 @@
 // Whether a cut is refused, and how much an encoding holds once it is cut (document 01, "Truncate").
+#![tactic(auto)]
+
 ghost use Rattle.std.specs.Prelude.{◌≡◌, ◌+◌};
 ghost use Rattle.truncate_size.specs.Promises.{Fitting};
 ghost use Rattle.truncate_size.specs.Size.{stride_refused, size_after};

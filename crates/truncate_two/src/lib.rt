@@ -1,4 +1,6 @@
 // Two encodings, each cut to a number of rows, one after the other (document 01, "Truncate pair").
+#![tactic(auto)]
+
 ghost use Rattle.std.specs.Prelude.{◌≡◌};
 ghost use Rattle.truncate_two.specs.Promises.{Small, AskPair, BecomesPair, together};
 ghost use Rattle.truncate_two.specs.CutBoth.{cut_both_outcome};

@@ -1,4 +1,6 @@
 // An encoding, cut and written: as it is, below an empty one, or its windows (document 01, "Truncate").
+#![tactic(auto)]
+
 ghost use Rattle.std.specs.Prelude.{[], ◌∷◌, ◌+◌};
 ghost use Rattle.cut_windows.specs.Made.{plain};
 ghost use Rattle.record.specs.Flat.{node_width};

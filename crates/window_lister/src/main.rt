@@ -4,6 +4,8 @@
 // What a line asks is a function of `listing_request`, what is answered are functions of `listing`, `input` gathers the lines
 // and `output` writes. Here the output is gathered into blocks. A read or a write that fails ends the program, with a line on
 // standard error.
+#![tactic(auto)]
+
 ghost use Rattle.std.specs.Prelude.{◌≡◌};
 ghost use Rattle.io.specs.Counts.{IsPrefixLen};
 ghost use Rattle.listing.specs.Promises.{LineRoom, ReadyOutput};

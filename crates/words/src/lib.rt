@@ -1,4 +1,6 @@
 // Numbers of 32 bits stored in bytes, the lowest byte first: words.
+#![tactic(auto)]
+
 ghost use Rattle.std.specs.Prelude.{◌≡◌, ◌+◌, ◌*◌, ◌≤◌, length, drop};
 ghost use Rattle.std.proofs.lemmas.List.Edits.{sets};
 ghost use Rattle.words.specs.Words.{word_bytes, word_at, words_at};
