@@ -10,8 +10,7 @@ use Rattle.record.specs.Flat.{range_at}
 use Rattle.record.specs.Walk.{all_rows}
 use Rattle.record.specs.declared.Refusal.TheVariants.{MalformedRecord, NoRoom}
 use Rattle.words.specs.Words.{word_at}
-use Rattle.lists.specs.Lists.{one}
-use Rattle.report_trees.specs.Counts.{how_many}
+use Rattle.report_trees.specs.Counts.{how_many, one}
 use Rattle.report_trees.specs.Report.{empty_report, add_answer, totalled}
 use Rattle.report_trees.specs.declared.Added.TheVariants.{Refused, Done}
 use Rattle.report_stored.specs.Stored.{node_words, row_words, stored_batch}

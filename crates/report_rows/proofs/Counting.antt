@@ -8,12 +8,11 @@ use mathlib.Core.List.{List, [], ◌∷◌}
 use lib.Dec.{eqb}
 use lib.ListN.{length, get_or, drop}
 use lib.Seq.{get_or-drop}
-use Rattle.lists.specs.Lists.{one}
 use Rattle.record.specs.Tree.{Row}
 use Rattle.record.specs.Flat.{row_width, row_at}
 use Rattle.record.specs.Read.{several}
 use Rattle.record.proofs.Several.{length_several, several_more}
-use Rattle.report_trees.specs.Counts.{how_many, is_padding, is_special, is_rest}
+use Rattle.report_trees.specs.Counts.{one, how_many, is_padding, is_special, is_rest}
 use Rattle.report_trees.proofs.Counts.{many_append, many_one}
 use Rattle.report_rows.specs.Kinds.{kinds_of}
 
@@ -89,3 +88,9 @@ module _ {rows : List ℕ} {padding special rest i : ℕ} (k : Counting rows pad
 
   pub counting_end : (count : ℕ) → i ≡ count → record { padding = padding; special = special; rest = rest } ≡ kinds_of (first_rows rows count)
   counting_end count e = λ j. record { padding = (k.padding_is ∙ ap (λ (n : ℕ). how_many is_padding (first_rows rows n)) e) j; special = (k.special_is ∙ ap (λ (n : ℕ). how_many is_special (first_rows rows n)) e) j; rest = (k.rest_is ∙ ap (λ (n : ℕ). how_many is_rest (first_rows rows n)) e) j }
+
+-- one of a kind at most
+pub one_few : (b : Bool) {x : ℕ} → x ≡ one b → x ≤ 1
+unfolding one
+one_few true e = omega arith
+one_few false e = omega arith

@@ -4,7 +4,7 @@
 ghost use Rattle.std.specs.Prelude.{◌&&◌, not, ◌≡◌, ◌*◌, ◌≤◌, eqb, length};
 ghost use Rattle.record.specs.Flat.{row_width, row_at};
 ghost use Rattle.record.specs.Read.{several};
-ghost use Rattle.lists.specs.Lists.{one};
+ghost use Rattle.report_trees.specs.Counts.{one};
 ghost use Rattle.report_rows.specs.Kinds.{kinds_of};
 
 use record::{Column, Encoding};

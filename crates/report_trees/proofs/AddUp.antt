@@ -7,13 +7,12 @@ use native.Mathlib.Omega.{arith}
 use mathlib.Core.List.{List, [], ◌∷◌}
 use lib.Dec.{eqb}
 use lib.ListN.{length}
-use Rattle.lists.specs.Lists.{one}
 use Rattle.record.specs.Tree.{Row, Forest}
 use Rattle.record.specs.Read.{Reading, malformed, holds, read, of_any}
 use Rattle.record.specs.Walk.{all_rows}
 use Rattle.record.proofs.Walk.{length_all_rows}
 use Rattle.record.specs.declared.Refusal.TheVariants.{TotalTooLarge}
-use Rattle.report_trees.specs.Counts.{how_many, is_padding, is_special, is_rest}
+use Rattle.report_trees.specs.Counts.{one, how_many, is_padding, is_special, is_rest}
 use Rattle.report_trees.specs.Report.{counted, summed, within_totals, totalled, add_answer, Begun, begun_empty, begun_more, KindsAddUp}
 use Rattle.report_trees.specs.declared.Report.{Report}
 use Rattle.report_trees.specs.declared.Added.TheVariants.{Refused, Done}

@@ -5,10 +5,9 @@ use mathlib.Core.Bool.{Bool}
 use Prim.Native.Nat.{◌+◌}
 use native.Mathlib.Omega.{arith}
 use mathlib.Core.List.{List, [], ◌∷◌, ◌++◌}
-use Rattle.lists.specs.Lists.{one}
 use Rattle.record.specs.Tree.{Row, Forest, none, node, tops}
 use Rattle.record.specs.WellFormed.{nodes_in}
-use Rattle.report_trees.specs.Counts.{windows_in, how_many}
+use Rattle.report_trees.specs.Counts.{windows_in, one, how_many}
 
 pub many_append : (such : Row → Bool) (s t : List Row) → how_many such (s ++ t) ≡ how_many such s + how_many such t
 unfolding how_many

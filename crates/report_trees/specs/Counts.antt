@@ -1,7 +1,6 @@
 -- What a report counts of a batch, each count by a definition of its own (document 02, request 03).
 -- Assumes nothing: these are definitions.
-use Rattle.std.specs.Prelude.{ℕ, ◌+◌, Bool, ◌&&◌, not, List, [], ◌∷◌, eqb}
-use Rattle.lists.specs.Lists.{one}
+use Rattle.std.specs.Prelude.{ℕ, ◌+◌, Bool, ◌&&◌, not, cond, List, [], ◌∷◌, eqb}
 use Rattle.record.specs.Tree.{Row, Forest, none, node}
 use Rattle.record.specs.WellFormed.{nodes_in}
 use Rattle.record.specs.Walk.{all_rows}
@@ -10,6 +9,10 @@ use Rattle.record.specs.Walk.{all_rows}
 abbrev pub windows_in : Forest → ℕ
 windows_in none = 0
 windows_in (node r q w x) = nodes_in w + windows_in x
+
+-- 1 for yes
+unfoldable pub one : Bool → ℕ
+one b = cond b 1 0
 
 -- how many of the rows are such
 unfoldable pub how_many : (Row → Bool) → List Row → ℕ

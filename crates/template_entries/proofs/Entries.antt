@@ -11,8 +11,17 @@ use mathlib.Core.List.{List}
 use lib.ListN.{length, get_or, drop}
 use lib.Seq.{drop-drop, get_or-drop}
 use Rattle.record.specs.Read.{several}
-use Rattle.record.proofs.Several.{length_several, several_nth}
+use Rattle.record.proofs.Several.{length_several}
 use Rattle.template_entries.specs.Table.{Entry, Member, entry_width, member_width, entry_at, member_at, no_entry, no_member, entries_in, members_in, entry_ok, member_ok, agrees}
+
+module _ {A : Type 0} (at : List ℕ → A) (width : ℕ) where
+  several_nth : (n : ℕ) (l : List ℕ) (k : ℕ) (d : A) → k < n → get_or (several at width n l) k d ≡ at (drop (k * width) l)
+  unfolding several
+  several_nth zero l k d h = absurd (omega arith)
+  several_nth (suc n) l zero d h = rw (zero-mul width)
+  several_nth (suc n) l (suc k) d h =
+      let e : suc k * width ≡ width + k * width = omega (arith, suc-mul k width) in
+      several_nth n (drop width l) k d (omega arith) ∙ rw (e, drop-drop)
 
 module _ (numbers : List ℕ) where
   pub entries_number : length (entries_in numbers) ≡ length numbers / entry_width

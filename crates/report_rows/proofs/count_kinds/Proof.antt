@@ -1,8 +1,7 @@
 -- `count_kinds` counts row by row: after i turns, the kinds of the first i (`Counting`). Assumes nothing.
 use Prim.Native.Nat.{◌-◌, ◌≤◌}
 use borrow.Author.Rules.{rules}
-use Rattle.lists.proofs.Numbers.{one_few}
-use Rattle.report_rows.proofs.Counting.{Counting, counting_start, counting_more, counting_end, padding_few, special_few, rest_few}
+use Rattle.report_rows.proofs.Counting.{Counting, counting_start, counting_more, counting_end, padding_few, special_few, rest_few, one_few}
 use native.Mathlib.Omega.{arith}
 use Rattle.report_rows.proofs.count_kinds.Statement.{statement}
 use Rattle.report_rows.proofs.count_kinds.Tie as tie

@@ -1,6 +1,6 @@
 -- `is_padding` meets its contract, by whether the mask is 0. Assumes nothing.
 use borrow.Author.Tests.{eq-eqb, ne_eqb}
-use Rattle.lists.specs.Lists.{one}
+use Rattle.report_trees.specs.Counts.{one}
 use Rattle.report_rows.proofs.is_padding.Statement.{statement}
 use Rattle.report_rows.proofs.is_padding.Tie as tie
 

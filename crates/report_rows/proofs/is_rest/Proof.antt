@@ -1,6 +1,6 @@
 -- `is_rest` meets its contract, by which mask is 0. Assumes nothing.
 use borrow.Author.Tests.{eq-eqb, ne_eqb}
-use Rattle.lists.specs.Lists.{one}
+use Rattle.report_trees.specs.Counts.{one}
 use Rattle.report_rows.proofs.is_rest.Statement.{statement}
 use Rattle.report_rows.proofs.is_rest.Tie as tie
 

@@ -1,0 +1,26 @@
+-- `present_of` counts the ranges: after k turns, those before place k. Assumes nothing.
+use mathlib.Core.Logic.{⊎_elim}
+use Prim.Native.Nat.{◌-◌}
+use native.Mathlib.Nat.{zero-add}
+use Rattle.lookup_ranges.proofs.Ranges.{present_more, present_same, present_end}
+use borrow.Author.Rules.{rules}
+use native.Mathlib.Omega.{arith}
+use Rattle.lookup_ranges.proofs.present_of.Goals as goal
+
+pub loop-k-init : goal.loop-k-init
+loop-k-init c = (search rules, search rules, λ rows E h. zero-add _)
+
+pub loop-k-preserved : goal.loop-k-preserved
+loop-k-preserved c =
+    let b = c.loop-k-test.true in (
+      search rules,
+      ⊎_elim (λ w. omega arith) (λ w. omega arith) c.if-nodes-k-eq1.branch,
+      λ rows E h.
+          ⊎_elim
+          (λ w. omega (arith, c.loop-k.invariant.2 rows E h, present_more h c.loop-k.k b w.0.taken))
+          (λ w. omega (arith, c.loop-k.invariant.2 rows E h, present_same h c.loop-k.k b w.0.left))
+          c.if-nodes-k-eq1.branch,
+    )
+
+pub returns : goal.returns
+returns c = λ rows E h. omega (arith, c.loop-k.invariant.2 rows E h, present_end h c.loop-k.k c.loop-k-test.false)

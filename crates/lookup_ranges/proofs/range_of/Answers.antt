@@ -1,0 +1,14 @@
+-- `range_of` reads the range of a sequence, or all rows. Assumes nothing.
+use mathlib.Core.Logic.{inl, inr, ⊎_elim}
+use Rattle.lookup_ranges.proofs.Ranges.{range_there, range_all}
+use Rattle.lookup_ranges.proofs.range_of.Goals as goal
+
+pub returns-then-nodes-at-eq1 : goal.returns-then-nodes-at-eq1
+returns-then-nodes-at-eq1 c = λ rows E h.
+    let v = c.args in
+    range_there h v.sequence_id c.if-k-lt-SEQUENCES.true c.if-nodes-at-eq1.true
+
+pub returns : goal.returns
+returns c = λ rows E h.
+    let v = c.args in
+    range_all h v.sequence_id (⊎_elim (λ w. inr (w.0.taken, w.2.left)) (λ w. inl w.left) c.if-k-lt-SEQUENCES.branch)
