@@ -1,6 +1,6 @@
 -- The lowest bit of a number, found by the number's bits that its negative has too: at most 1 exactly if the number is odd
 -- or 0. Assumes nothing.
-use Rattle.std.proofs.Common.{◌≡◌, ℕ, zero, suc, ◌+◌, ◌-◌, ◌/◌, ◌%◌, ◌^◌, ◌<◌, ◌≤◌, min, refl, pow-suc, arith}
+use Rattle.std.proofs.Common.{◌≡◌, ℕ, zero, suc, ◌+◌, ◌/◌, ◌%◌, ◌^◌, ◌<◌, ◌≤◌, min, refl, pow-suc, arith}
 use lib.Bits.{bit_and, and_step, and_le_l, or_lt, or_add_and}
 use Rattle.record_fields.specs.Promises.{LowestBit}
 

@@ -1,5 +1,5 @@
 -- `node_ok` decides whether the ranges of a node are fine: those before k are. Assumes nothing.
-use Rattle.std.proofs.Common.{◌-◌, arith, below_more}
+use Rattle.std.proofs.Common.{arith, below_more}
 use Rattle.record_fields.proofs.Decides.{decided, refuted}
 use Rattle.record_fields.proofs.node_ok.Invariants.{Ok}
 use Rattle.record_fields.proofs.node_ok.Goals as goal

@@ -1,5 +1,5 @@
 -- `rows_ok` decides whether the marks of every whole row are fine: those of the rows before i are judged. Assumes nothing.
-use Rattle.std.proofs.Common.{ℕ, ◌+◌, ◌-◌, sym, refl, subst, arith}
+use Rattle.std.proofs.Common.{ℕ, ◌+◌, sym, refl, subst, arith}
 use lib.Bits.{bit_or}
 use Rattle.record_fields.proofs.Together.{Judged, judged_start, judged_more, judged_end, judged_not}
 use Rattle.record_fields.proofs.rows_ok.Goals as goal
