@@ -2,4 +2,3 @@ mod Samples
 pub mod Finding
 pub mod Split
 pub mod Parts
-mod Walk
