@@ -7,21 +7,6 @@ use Prim.Native.Nat.{suc, ◌+◌, ◌-◌}
 use Rattle.join_table.specs.Table.{level_count}
 use Rattle.join_table.proofs.Passes.{passed_none, passed_more, fits_first, fits_three}
 use Rattle.join_table.proofs.step.Goals as goal
-use Rattle.join_table.proofs.step.Lts as Lts
-use Rattle.join_table.proofs.step.Reads as Reads
-use Rattle.join_table.proofs.step.Tie as tie
-
--- ---- Places in the code
-
-abbrev After-t-in-loop-k-1 : Type 0
-After-t-in-loop-k-1 = Lts.After-t2 Reads.Pre Reads.Post goal.the-invariant-loop-k goal.the-decreases-loop-k
-
-abbrev Start : Type 0
-Start = Lts.Start Reads.Pre Reads.Post goal.the-invariant-loop-k goal.the-decreases-loop-k
-
--- ---- The places that others look back to
-abbrev start : After-t-in-loop-k-1 → Start
-start c = c.before.before.before.before
 
 pub loop-k-init : goal.loop-k-init
 loop-k-init c = (search rules, passed_none _ _ c.requires.1)
@@ -30,7 +15,7 @@ pub overflow_add-t-in-loop-k-2 : goal.overflow_add-t-in-loop-k-2
 overflow_add-t-in-loop-k-2 c = record { fits = fits_first _ _ (fits_three _ _ _ (c.loop-k.invariant.1.left (c.loop-k.k + 1) (omega arith)) (c.loop-k.invariant.1.left (c.loop-k.k + level_count) (omega arith)) (c.loop-k.invariant.1.left (c.loop-k.k + suc level_count) (omega arith)) (c.requires.2 (c.loop-k.k + 1) (omega arith)) (c.requires.2 (c.loop-k.k + level_count) (omega arith)) (c.requires.2 (c.loop-k.k + suc level_count) (omega arith))) }
 
 pub overflow_add-t-in-loop-k-4 : goal.overflow_add-t-in-loop-k-4
-overflow_add-t-in-loop-k-4 c = record { fits = fits_three _ _ _ (c.loop-k.invariant.1.left (c.loop-k.k + 1) (omega arith)) (c.loop-k.invariant.1.left (c.loop-k.k + level_count) (omega arith)) (c.loop-k.invariant.1.left (c.loop-k.k + suc level_count) (omega arith)) ((start c.before).requires.2 (c.loop-k.k + 1) (omega arith)) ((start c.before).requires.2 (c.loop-k.k + level_count) (omega arith)) ((start c.before).requires.2 (c.loop-k.k + suc level_count) (omega arith)) }
+overflow_add-t-in-loop-k-4 c = record { fits = fits_three _ _ _ (c.loop-k.invariant.1.left (c.loop-k.k + 1) (omega arith)) (c.loop-k.invariant.1.left (c.loop-k.k + level_count) (omega arith)) (c.loop-k.invariant.1.left (c.loop-k.k + suc level_count) (omega arith)) (c.requires.2 (c.loop-k.k + 1) (omega arith)) (c.requires.2 (c.loop-k.k + level_count) (omega arith)) (c.requires.2 (c.loop-k.k + suc level_count) (omega arith)) }
 
 pub loop-k-preserved : goal.loop-k-preserved
 loop-k-preserved c = (search rules, passed_more _ c.loop-k.invariant.1 (omega arith) (ap₂ ◌+◌ (ap₂ ◌+◌ (c.loop-k.invariant.1.left (c.loop-k.k + 1) (omega arith)) (c.loop-k.invariant.1.left (c.loop-k.k + level_count) (omega arith))) (c.loop-k.invariant.1.left (c.loop-k.k + suc level_count) (omega arith))))
