@@ -147,12 +147,20 @@ exact_B g B e =
     (λ A ihA. induct (λ C. left g A B C ≡ right g A B C)
     (λ C ihC. exact_step g A B C (all_imp (windows A) (λ a ih. rw e (append-nil (map (left g a B) (W C)) ∙ ap (λ (f : Encoding → Encoding). map f (W C)) (fun_ext ih))) ihA) (rw e tt) ihC))
 
+-- With nothing beside the last of the three, both orders of the windows are the same.
+singles : (l r : Encoding → Encoding → Encoding) (B C : Encoding) (cs : List Encoding) → cs ≡ [] → ((b : Encoding) → l b C ≡ r b C)
+    → each l (W B) (C ∷ cs) ≡ r B C ∷ (each r (windows B) (C ∷ cs) ++ map (r B) cs)
+unfolding flat_map
+singles l r B C [] e h =
+    ap (λ (f : Encoding → Encoding). flat_map (λ b. f b ∷ []) (W B)) (fun_ext {f = λ b. l b C} {g = λ b. r b C} h) ∙ sym (append-nil (flat_map (λ b. r b C ∷ []) (W B)))
+singles l r B C (x ∷ xs) e h = cc
+
 exact_C : (g : Bool) (C : Encoding) → windows C ≡ [] → (A B : Encoding) → left g A B C ≡ right g A B C
 unfolding flat_map
 exact_C g C e =
     induct (λ A. (B : Encoding) → left g A B C ≡ right g A B C)
     (λ A ihA. induct (λ B. left g A B C ≡ right g A B C)
-    (λ B ihB. exact_step g A B C (all_imp (windows A) (λ a ih. rw e (ap (λ (f : Encoding → Encoding). flat_map (λ b. f b ∷ []) (W B)) (fun_ext ih) ∙ sym (append-nil (flat_map (λ b. right g a b C ∷ []) (W B))))) ihA) (all_imp (windows B) (λ b p. rw e (p, tt)) ihB) (rw e tt)))
+    (λ B ihB. exact_step g A B C (all_imp (windows A) (λ a ih. singles (left g a) (right g a) B C (windows C) e ih) ihA) (all_imp (windows B) (λ b p. rw e (p, tt)) ihB) (rw e tt)))
 
 pub grouping_exact : (g : Bool) (A B C : Encoding) → (windows A ≡ []) ⊎ (windows B ≡ []) ⊎ (windows C ≡ []) → join g (join g A B) C ≡ join g A (join g B C)
 grouping_exact g A B C (inl e) = exact_A g A e B C
