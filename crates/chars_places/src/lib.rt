@@ -13,14 +13,14 @@ const BLOCKS: usize = 16_384;
 pub const PLACES: usize = 16_385;
 
 // The size of the blocks of a text, a power of two, so that a place's block is found by a shift.
-#[derive(Drop)]
+#[derive(Clone, Copy)]
 pub struct Grain {
     pub shift: usize,
     pub block: usize,
 }
 
 // A place of a text, and how many characters begin before it.
-#[derive(Drop)]
+#[derive(Clone, Copy)]
 pub struct Mark {
     pub place: usize,
     pub count: usize,

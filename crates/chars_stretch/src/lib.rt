@@ -11,7 +11,7 @@ ghost use Rattle.chars_stretch.specs.Promises.{StartsUpTo, CharsStretched, Place
 use chars_places::{Grain, Mark, PLACES};
 
 // Offsets next to each other, and what the first of them becomes. Each becomes as much more as it lies behind the first.
-#[derive(Drop)]
+#[derive(Clone, Copy)]
 pub struct Stretch {
     pub from: usize,
     pub to: usize,

@@ -7,7 +7,7 @@ ghost use Rattle.cut_lengths.specs.Lengths.{kept_lengths, kept_alone, kept_both,
 use record::Refusal;
 
 // Which of a pair is cut: the longer one first, or always the first, or always the second.
-#[derive(Drop)]
+#[derive(Clone, Copy)]
 pub enum Strategy {
     LongestFirst,
     OnlyFirst,
@@ -15,14 +15,14 @@ pub enum Strategy {
 }
 
 // The row count of the second of a pair, if there is one.
-#[derive(Drop)]
+#[derive(Clone, Copy)]
 pub enum Second {
     Missing,
     Rows(u32),
 }
 
 // How many rows are kept: refused, or of the only encoding, or of both.
-#[derive(Drop)]
+#[derive(Clone, Copy)]
 pub enum Kept {
     Refused(Refusal),
     Alone(u32),

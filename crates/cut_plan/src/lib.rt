@@ -8,7 +8,7 @@ ghost use Rattle.cut_plan.specs.Cut.{windows_of, bounds, decision_of};
 use record::Bounds;
 
 // The side from which rows are cut off.
-#[derive(Drop)]
+#[derive(Clone, Copy)]
 pub enum Direction {
     Left,
     Right,
@@ -16,7 +16,7 @@ pub enum Direction {
 
 // What becomes of an encoding: nothing is cut; nothing is kept; the stride is refused; or this many windows, the kept
 // one counted.
-#[derive(Drop)]
+#[derive(Clone, Copy)]
 pub enum Decision {
     Whole,
     Emptied,

@@ -8,7 +8,7 @@ use record_check::Shape;
 use record_room::Size;
 
 // Refused; or an offset would pass 32 bits, the refusal that leaves zeros; or a fold of so many nodes and rows.
-#[derive(Drop)]
+#[derive(Clone, Copy)]
 pub enum Decision {
     Refused(Refusal),
     TooLarge,

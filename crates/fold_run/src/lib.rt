@@ -6,7 +6,7 @@ ghost use Rattle.fold_run.specs.Promises.{AskRunFrom, FindsRun};
 use record::Encoding;
 
 // How much a run holds: as many nodes as encodings, and their rows.
-#[derive(Drop)]
+#[derive(Clone, Copy)]
 pub struct Run {
     pub nodes: usize,
     pub rows: usize,

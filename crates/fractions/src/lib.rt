@@ -5,7 +5,7 @@ ghost use Rattle.std.specs.Prelude.{◌≡◌};
 ghost use Rattle.fractions.specs.Fractions.{gcd_of, lowest_of};
 
 // A part of a whole.
-#[derive(Drop)]
+#[derive(Clone, Copy)]
 pub struct Fraction {
     pub part: u64,
     pub whole: u64,

@@ -13,7 +13,7 @@ pub const PIECE: usize = 65536;
 
 // What is read and not yet taken: the bytes of the piece from `at` up to `end`. The input is open until a read gives nothing,
 // because the input has ended or because the read failed.
-#[derive(Drop)]
+#[derive(Clone, Copy)]
 pub struct Unread {
     pub at: usize,
     pub end: usize,
@@ -23,7 +23,7 @@ pub struct Unread {
 
 // A line of the input: whether there is one, whether it was too long for its buffer, and how many of the buffer's bytes it is,
 // 0 if it is too long.
-#[derive(Drop)]
+#[derive(Clone, Copy)]
 pub struct Line {
     pub found: bool,
     pub long: bool,
@@ -32,7 +32,7 @@ pub struct Line {
 }
 
 // What a line has so far, counted as `lines::keep` does, and whether its newline has come.
-#[derive(Drop)]
+#[derive(Clone, Copy)]
 pub struct Gathered {
     pub ended: bool,
     pub held: usize,

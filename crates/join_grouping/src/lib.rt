@@ -7,7 +7,7 @@ ghost use Rattle.join_grouping.specs.Grouping.{BothWays};
 use record::Written;
 
 // What each way answers.
-#[derive(Drop)]
+#[derive(Clone, Copy)]
 pub struct Answers {
     pub left: Written,
     pub right: Written,

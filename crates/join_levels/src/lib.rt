@@ -11,7 +11,7 @@ use join_table::LEVELS;
 use record::Encoding;
 
 // What an encoding has at each level, and how many levels there are below the top.
-#[derive(Drop)]
+#[derive(Clone, Copy)]
 pub struct Profile {
     pub nodes: [usize; LEVELS],
     pub rows: [usize; LEVELS],
@@ -19,7 +19,7 @@ pub struct Profile {
 }
 
 // Whether an encoding is within the limits, and then its profile.
-#[derive(Drop)]
+#[derive(Clone, Copy)]
 pub struct Answer {
     pub fits: bool,
     pub profile: Profile,

@@ -7,7 +7,7 @@ ghost use Rattle.join_view.specs.View.{below};
 // How the second operand is seen: as it stands; with a sequence's range set to all its rows; or so, and with a type on all
 // its rows, its first-level windows with that sequence set too. A template's piece is such a view of an input encoding,
 // which stands in no store of its own.
-#[derive(Drop)]
+#[derive(Clone, Copy)]
 pub enum View {
     Plain,
     Window(usize),

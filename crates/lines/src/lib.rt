@@ -14,7 +14,7 @@ const MOST_DIGITS: usize = 10;
 
 const LARGEST: u64 = 4_294_967_295;
 
-#[derive(Drop)]
+#[derive(Clone, Copy)]
 pub enum Number {
     Bad,
     // The value, and the place after the last digit.

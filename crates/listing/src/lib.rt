@@ -104,7 +104,7 @@ fn write_count(n: u32, out: &mut [u8], at: usize) -> usize
 }
 
 // How far a listing has come: the next window's number, and the place after the last line.
-#[derive(Drop)]
+#[derive(Clone, Copy)]
 pub struct Step {
     pub next: u32,
     pub at: usize,

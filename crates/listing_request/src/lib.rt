@@ -11,7 +11,7 @@ use record::Encoding;
 const SPACE: u8 = b' ';
 
 // A cut whose windows are to be listed.
-#[derive(Drop)]
+#[derive(Clone, Copy)]
 pub struct Request {
     pub rows: u32,
     pub max: u32,
@@ -19,7 +19,7 @@ pub struct Request {
     pub direction: Direction,
 }
 
-#[derive(Drop)]
+#[derive(Clone, Copy)]
 pub enum Asked {
     BadLine,
     Cut(Request),

@@ -15,7 +15,7 @@ use lookup_tokens::TokenWordAnswer;
 use record::{Place, Refusal, Word};
 
 // The word that holds a character.
-#[derive(Drop)]
+#[derive(Clone, Copy)]
 pub enum WordAnswer {
     Refused(Refusal),
     Nothing,

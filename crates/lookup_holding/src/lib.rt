@@ -11,7 +11,7 @@ ghost use Rattle.record.specs.Flat.{node_width};
 use record::{Encoding, SequencePlace};
 
 // The sequence that holds a row, and the row's place in it.
-#[derive(Drop)]
+#[derive(Clone, Copy)]
 pub enum Sequence {
     Nothing,
     Found { sequence: u32, place: SequencePlace },

@@ -12,7 +12,7 @@ ghost use Rattle.record.specs.Flat.{row_width};
 use record::{Column, Encoding, Refusal, Row};
 
 // The rows of a word: from start up to, not including, end.
-#[derive(Drop)]
+#[derive(Clone, Copy)]
 pub enum TokensAnswer {
     Refused(Refusal),
     Nothing,
@@ -20,7 +20,7 @@ pub enum TokensAnswer {
 }
 
 // The row that holds a character.
-#[derive(Drop)]
+#[derive(Clone, Copy)]
 pub enum TokenAnswer {
     Refused(Refusal),
     Nothing,

@@ -10,20 +10,20 @@ use lookup_holding::Sequence;
 use record::{Refusal, Row, SequencePlace};
 
 // The rows of a sequence: from start up to, not including, end.
-#[derive(Drop)]
+#[derive(Clone, Copy)]
 pub enum RangeAnswer {
     Refused(Refusal),
     Rows { start: Row, end: Row },
 }
 
-#[derive(Drop)]
+#[derive(Clone, Copy)]
 pub enum CountAnswer {
     Refused(Refusal),
     Count(u32),
 }
 
 // The sequence that a row is in, and the row's place in it.
-#[derive(Drop)]
+#[derive(Clone, Copy)]
 pub enum SequenceAnswer {
     Refused(Refusal),
     Nothing,
@@ -31,7 +31,7 @@ pub enum SequenceAnswer {
 }
 
 // Done with the number of rows: two numbers were written for each.
-#[derive(Drop)]
+#[derive(Clone, Copy)]
 pub enum ColumnAnswer {
     Refused(Refusal),
     Done(usize),

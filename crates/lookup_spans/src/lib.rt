@@ -11,7 +11,7 @@ ghost use Rattle.record.specs.Read.{several};
 use record::{Column, Encoding};
 
 // Whether there is a span, its start and its end; zeros while there is none.
-#[derive(Drop)]
+#[derive(Clone, Copy)]
 pub struct Seen {
     pub found: bool,
     pub start: u32,

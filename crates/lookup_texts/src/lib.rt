@@ -13,7 +13,7 @@ use record::{Column, Encoding, Place, Refusal, Row};
 use record_check::Shape;
 
 // Where a row's text lies: in the token texts (pool 0) or the added texts (pool 1), from start on.
-#[derive(Drop)]
+#[derive(Clone, Copy)]
 pub enum TextAnswer {
     Refused(Refusal),
     Nothing,
@@ -21,7 +21,7 @@ pub enum TextAnswer {
 }
 
 // A node's least offset start and greatest offset end over its own rows with special mask 0.
-#[derive(Drop)]
+#[derive(Clone, Copy)]
 pub enum SpanAnswer {
     Refused(Refusal),
     Nothing,

@@ -13,7 +13,7 @@ use lookup_holding::Sequence;
 use record::{Column, Encoding, Place, Refusal, Row, SequencePlace, Word};
 
 // The characters of a row, its sequence and its place in that.
-#[derive(Drop)]
+#[derive(Clone, Copy)]
 pub enum TokenCharsAnswer {
     Refused(Refusal),
     Nothing,
@@ -26,7 +26,7 @@ pub enum TokenCharsAnswer {
 }
 
 // The word of a row, its sequence and its place in that.
-#[derive(Drop)]
+#[derive(Clone, Copy)]
 pub enum TokenWordAnswer {
     Refused(Refusal),
     Nothing,

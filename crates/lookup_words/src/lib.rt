@@ -15,7 +15,7 @@ use lookup_search::TokensAnswer;
 use record::{Column, Encoding, Place, Refusal, Word};
 
 // The characters of a word: from start up to, not including, end.
-#[derive(Drop)]
+#[derive(Clone, Copy)]
 pub enum CharsAnswer {
     Refused(Refusal),
     Nothing,

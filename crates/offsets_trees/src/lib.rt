@@ -3,14 +3,14 @@
 #![tactic(auto)]
 
 // Which way offsets are converted.
-#[derive(Drop)]
+#[derive(Clone, Copy)]
 pub enum Way {
     ToCharacters,
     ToBytes,
 }
 
 // What is wrong with an offset, or with the first row of a batch that has a wrong one.
-#[derive(Drop)]
+#[derive(Clone, Copy)]
 pub enum Fault {
     Fine,
     PastEnd,

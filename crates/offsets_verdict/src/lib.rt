@@ -14,7 +14,7 @@ use record_check::Shape;
 const MOST_BYTES: usize = 4_294_967_295;
 
 // Why a batch cannot be converted; or that it can, with the number of the text's characters.
-#[derive(Drop)]
+#[derive(Clone, Copy)]
 pub enum Verdict {
     Malformed,
     NotText,

@@ -8,7 +8,7 @@ ghost use Rattle.std.specs.Prelude.{◌≤◌, length};
 use libc::STDOUT_FILENO;
 
 // How many of some bytes were written, and whether these are all of them.
-#[derive(Drop)]
+#[derive(Clone, Copy)]
 pub struct Written {
     pub count: usize,
     pub all: bool,
@@ -60,7 +60,7 @@ pub fn write(bytes: &[u8]) -> Written
 }
 
 // One write: how many bytes it took, and whether it failed.
-#[derive(Drop)]
+#[derive(Clone, Copy)]
 struct Step {
     taken: usize,
     failed: bool,

@@ -11,7 +11,7 @@ use pad_rows::PadToken;
 use record::Encoding;
 
 // The length to which a batch is padded: that of its longest encoding, windows not counted, or a given one.
-#[derive(Drop)]
+#[derive(Clone, Copy)]
 pub enum PaddingStrategy {
     BatchLongest,
     Fixed(u64),

@@ -13,7 +13,7 @@ use record::Encoding;
 use record_write::NewRow;
 
 // The token of the rows that padding adds. Its text lies in the added texts.
-#[derive(Drop)]
+#[derive(Clone, Copy)]
 pub struct PadToken {
     pub id: u32,
     pub type_id: u32,

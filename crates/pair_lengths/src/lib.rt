@@ -10,14 +10,14 @@ use cut_lengths::{Kept, Second, Strategy};
 use record::Refusal;
 
 // What becomes of an encoding: whether it is cut, and the rows it keeps. One that is not cut keeps all that it has.
-#[derive(Drop)]
+#[derive(Clone, Copy)]
 pub struct Length {
     pub cut: bool,
     pub kept: u32,
 }
 
 // The lengths of a pair: refused, or of the only encoding, or of both.
-#[derive(Drop)]
+#[derive(Clone, Copy)]
 pub enum PairLengths {
     Refused(Refusal),
     Alone(Length),

@@ -12,7 +12,7 @@ use template_known::Validity;
 use template_table::TableAnswer;
 
 // Refused; or so many steps to take, with the spot of the second encoding.
-#[derive(Drop)]
+#[derive(Clone, Copy)]
 pub enum Decision {
     Refused(Refusal),
     Take { second: Spot, count: usize },

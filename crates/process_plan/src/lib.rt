@@ -11,7 +11,7 @@ use template_pieces::Kind;
 use template_text::PieceStep;
 
 // Refused, or so many steps.
-#[derive(Drop)]
+#[derive(Clone, Copy)]
 pub enum PlanAnswer {
     Refused(Refusal),
     Steps(usize),
@@ -19,7 +19,7 @@ pub enum PlanAnswer {
 
 // What comes at a place to the plan: the end, a part that cannot be read, a piece whose special id is unknown; a piece that is
 // left out, or that has a step, and the place after it.
-#[derive(Drop)]
+#[derive(Clone, Copy)]
 pub enum NextStep {
     Ended,
     Unreadable(Fault),
@@ -29,7 +29,7 @@ pub enum NextStep {
 }
 
 // The step of a piece, unless it is a special one whose id is unknown.
-#[derive(Drop)]
+#[derive(Clone, Copy)]
 pub enum StepAnswer {
     Unknown,
     Found(Step),

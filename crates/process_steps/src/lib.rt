@@ -10,7 +10,7 @@ use template_pieces::Kind;
 use template_text::Template;
 
 // The first encoding or the second, with a type; or special rows of a type: the number of their entry in the special table.
-#[derive(Drop)]
+#[derive(Clone, Copy)]
 pub enum Step {
     First(u32),
     Second(u32),

@@ -15,7 +15,7 @@ const GROWING: bool = false;
 
 // What a step joins: an encoding that is stored, where and as what it is seen; or rows of a type, of so many members of the
 // special table from the first on.
-#[derive(Drop)]
+#[derive(Clone, Copy)]
 pub enum Operand {
     Stored(Spot, View),
     Special(u32, usize, usize),

@@ -10,7 +10,7 @@ ghost use Rattle.record.specs.Tree.{absent};
 use record::Encoding;
 
 // Rows up to, not including, end that lie in one range or in none, and whether words are looked at there.
-#[derive(Drop)]
+#[derive(Clone, Copy)]
 pub struct RowStretch {
     pub end: u32,
     pub words: bool,

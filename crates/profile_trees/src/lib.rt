@@ -9,7 +9,7 @@ ghost use Rattle.profile_trees.specs.Promises.{held};
 use record::Refusal;
 
 // A broken rule by its number, with the node in the batch and the row in the node, both counted from 0.
-#[derive(Drop)]
+#[derive(Clone, Copy)]
 pub struct Break {
     pub rule: u32,
     pub node: u32,
@@ -32,7 +32,7 @@ impl Break {
 }
 
 // What the check of a batch answers: refused, yes, or the first broken rule.
-#[derive(Drop)]
+#[derive(Clone, Copy)]
 pub enum ProfileAnswer {
     Refused(Refusal),
     Passes,

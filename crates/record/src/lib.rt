@@ -8,7 +8,7 @@ ghost use Rattle.record.specs.Refusals.{why_number, number_of, fault_of, fault_a
 ghost use Rattle.record.specs.Tree.{forest, empty};
 
 // What an encoding measures. The record itself is two lent slices, nodes and rows.
-#[derive(Drop)]
+#[derive(Clone, Copy)]
 pub struct Encoding {}
 
 impl Encoding {
@@ -42,7 +42,7 @@ impl Encoding {
 }
 
 // The place of each number in a row.
-#[derive(Drop)]
+#[derive(Clone, Copy)]
 pub struct Column {}
 
 impl Column {
@@ -71,34 +71,34 @@ impl Column {
 
 // The numbers of a row, of a word and of a character, and the place of a row in its sequence, each a type of its own: one
 // handed over for another, as a word for a row, is an error of the build. All count from 0.
-#[derive(Drop)]
+#[derive(Clone, Copy)]
 pub struct Row(pub u32);
 
-#[derive(Drop)]
+#[derive(Clone, Copy)]
 pub struct Word(pub u32);
 
-#[derive(Drop)]
+#[derive(Clone, Copy)]
 pub struct Place(pub u32);
 
-#[derive(Drop)]
+#[derive(Clone, Copy)]
 pub struct SequencePlace(pub u32);
 
 // A stretch of rows: its first row, and the row after its last.
-#[derive(Drop)]
+#[derive(Clone, Copy)]
 pub struct Bounds {
     pub start: u32,
     pub end: u32,
 }
 
 // Where an encoding stands: the places of its node and of its rows.
-#[derive(Drop)]
+#[derive(Clone, Copy)]
 pub struct Spot {
     pub node: usize,
     pub row: usize,
 }
 
 // Why a part of a template cannot be read.
-#[derive(Drop)]
+#[derive(Clone, Copy)]
 pub enum Why {
     MoreThanOneColon,
     BadTypeNumber,
@@ -120,7 +120,7 @@ impl Why {
 
 // A part of a template that cannot be read: why, its number among the parts and the place of its first byte in the text, both
 // from 0.
-#[derive(Drop)]
+#[derive(Clone, Copy)]
 pub struct Fault {
     pub why: Why,
     pub part: usize,
@@ -129,7 +129,7 @@ pub struct Fault {
 
 // Why an operation does not do its work, in the order of the numbers of documents 01 and 02. A part of a template that cannot
 // be read is the one that says where.
-#[derive(Drop)]
+#[derive(Clone, Copy)]
 pub enum Refusal {
     MalformedRecord,
     NoRoom,
@@ -153,7 +153,7 @@ pub enum Refusal {
 }
 
 // The part of a template that is at fault, or none.
-#[derive(Drop)]
+#[derive(Clone, Copy)]
 pub enum FaultAnswer {
     None,
     Part(Fault),
@@ -202,7 +202,7 @@ impl Refusal {
 }
 
 // What an operation that writes answers: refused, or done with the nodes and rows of its result.
-#[derive(Drop)]
+#[derive(Clone, Copy)]
 pub enum Written {
     Refused(Refusal),
     Done { nodes: usize, rows: usize },

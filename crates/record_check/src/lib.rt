@@ -9,7 +9,7 @@ ghost use Rattle.record_check.specs.Promises.{Passes};
 use record::Encoding;
 
 // What a batch is: malformed, or this many encodings at the top.
-#[derive(Drop)]
+#[derive(Clone, Copy)]
 pub enum Shape {
     Malformed,
     Encodings(usize),

@@ -10,7 +10,7 @@ use record::Encoding;
 use record_room::Size;
 
 // How much a batch holds: its nodes, its rows and its levels, windows included.
-#[derive(Drop)]
+#[derive(Clone, Copy)]
 pub struct Extent {
     pub nodes: usize,
     pub rows: usize,

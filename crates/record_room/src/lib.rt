@@ -7,7 +7,7 @@ ghost use Rattle.record_room.specs.Room.{has_room};
 use record::Encoding;
 
 // What a result takes, known before it is built: whether it is within the limits and, if so, its nodes and rows.
-#[derive(Drop)]
+#[derive(Clone, Copy)]
 pub struct Size {
     pub fits: bool,
     pub nodes: usize,

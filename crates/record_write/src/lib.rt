@@ -12,7 +12,7 @@ ghost use Rattle.record_write.specs.Writing.{row_of, present_range};
 use record::Encoding;
 
 // The numbers of a row that is to be written.
-#[derive(Drop)]
+#[derive(Clone, Copy)]
 pub struct NewRow {
     pub id: u32,
     pub type_id: u32,
@@ -66,7 +66,7 @@ pub fn write_range(out: &mut [u32], at: usize, start: u32, end: u32)
 }
 
 // The place of each number in a token.
-#[derive(Drop)]
+#[derive(Clone, Copy)]
 pub struct Token {}
 
 impl Token {

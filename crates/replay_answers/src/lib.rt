@@ -34,7 +34,7 @@ pub fn begins(numbers: &[u32], list: &[u32]) -> bool
 }
 
 // What a line turned out to be.
-#[derive(Drop)]
+#[derive(Clone, Copy)]
 pub enum Outcome {
     Skipped,
     Same,

@@ -66,7 +66,7 @@ pub fn bytes_at(case: &[u32], at: usize, bytes: &mut [u8]) -> Part
 }
 
 // Whether a list is a text, and how many bytes it has.
-#[derive(Drop)]
+#[derive(Clone, Copy)]
 pub struct Text {
     pub good: bool,
     pub count: usize,
@@ -89,7 +89,7 @@ pub fn text_of(list: &[u32], bytes: &mut [u8]) -> Text
 }
 
 // Whether two texts of a case are there, how many bytes they have, and the place after both.
-#[derive(Drop)]
+#[derive(Clone, Copy)]
 pub struct Texts {
     pub fits: bool,
     pub first: usize,

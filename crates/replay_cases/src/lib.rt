@@ -12,7 +12,7 @@ use lines::Number;
 const SPACE: u8 = b' ';
 
 // Whether a line could be read, and how many numbers it has: 0 if it could not.
-#[derive(Drop)]
+#[derive(Clone, Copy)]
 pub struct Numbers {
     pub good: bool,
     pub count: usize,
@@ -55,7 +55,7 @@ pub fn read_numbers(line: &[u8], numbers: &mut [u32]) -> Numbers
 
 // A list within a case: its numbers are `case[start..end]`, and what follows it starts at `end`.
 // Where there is no list that fits, the part is empty and at the case's end.
-#[derive(Drop)]
+#[derive(Clone, Copy)]
 pub struct Part {
     pub fits: bool,
     pub start: usize,

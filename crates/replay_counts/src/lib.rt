@@ -9,7 +9,7 @@ use input_lines::Unread;
 use replay_answers::Outcome;
 
 // How many lines have ended, and what they were; and whether a write failed, after which nothing is printed.
-#[derive(Drop)]
+#[derive(Clone, Copy)]
 pub struct Progress {
     pub lines: u64,
     pub cases: u64,

@@ -23,7 +23,7 @@ pub const NUMBERS: usize = 8192;
 
 // A case among the numbers that are read: its operation, its two lists, and the end of what follows them. A line that is skipped
 // has none, and neither has one that is not good.
-#[derive(Drop)]
+#[derive(Clone, Copy)]
 pub struct Case {
     pub skipped: bool,
     pub good: bool,
@@ -34,7 +34,7 @@ pub struct Case {
 }
 
 // A line of the input: whether there is one, and the case that it holds.
-#[derive(Drop)]
+#[derive(Clone, Copy)]
 pub struct Next {
     pub found: bool,
     pub case: Case,

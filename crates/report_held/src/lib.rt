@@ -11,7 +11,7 @@ use report_trees::{Added, Report};
 
 // What is known of an input so far: the report over the batches that have come whole, or the first refusal; and how many bytes of
 // the next batch are held.
-#[derive(Drop)]
+#[derive(Clone, Copy)]
 pub struct Held {
     pub bytes: usize,
     pub report: Added,

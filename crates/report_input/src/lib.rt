@@ -10,7 +10,7 @@ use report_held::Held;
 use report_trees::Added;
 
 // How far a piece has been taken.
-#[derive(Drop)]
+#[derive(Clone, Copy)]
 pub struct Step {
     pub at: usize,
     pub held: Held,

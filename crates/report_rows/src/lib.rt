@@ -10,7 +10,7 @@ ghost use Rattle.report_rows.specs.Kinds.{kinds_of};
 use record::{Column, Encoding};
 
 // How many rows have attention 0, how many of the others have a special mask that is not 0, and how many are left.
-#[derive(Drop)]
+#[derive(Clone, Copy)]
 pub struct Kinds {
     pub padding: usize,
     pub special: usize,

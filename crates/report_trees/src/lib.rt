@@ -8,7 +8,7 @@ use record::Refusal;
 
 // Totals over all batches added: top encodings, windows at every level, the rows of both together; and of the rows those with
 // attention 0, those with attention not 0 and special mask not 0, and the rest.
-#[derive(Drop)]
+#[derive(Clone, Copy)]
 pub struct Report {
     pub encodings: u64,
     pub windows: u64,
@@ -35,7 +35,7 @@ impl Report {
 }
 
 // What adding a batch to a report answers: refused, or the report with the batch in it.
-#[derive(Drop)]
+#[derive(Clone, Copy)]
 pub enum Added {
     Refused(Refusal),
     Done(Report),

@@ -7,7 +7,7 @@ ghost use Rattle.template_entries.specs.Table.{no_entry, entry_width, entries_in
 ghost use Rattle.template_entries.specs.Rows.{members_of};
 
 // The place of each number in an entry.
-#[derive(Drop)]
+#[derive(Clone, Copy)]
 pub struct Entry {}
 
 impl Entry {
@@ -25,7 +25,7 @@ impl Entry {
 }
 
 // The place of each number in a member.
-#[derive(Drop)]
+#[derive(Clone, Copy)]
 pub struct Member {}
 
 impl Member {
@@ -39,7 +39,7 @@ impl Member {
 }
 
 // The members of an entry: the first of them, and how many.
-#[derive(Drop)]
+#[derive(Clone, Copy)]
 pub struct Members {
     pub first: u32,
     pub count: u32,

@@ -10,7 +10,7 @@ ghost use Rattle.template_pieces.specs.Piece.{same};
 use template_entries::Entry;
 
 // Where the entry of an id stands in the table.
-#[derive(Drop)]
+#[derive(Clone, Copy)]
 pub enum FoundEntry {
     Unknown,
     At(usize),

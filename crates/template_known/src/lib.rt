@@ -9,7 +9,7 @@ use template_entries::Entry;
 use template_pieces::Kind;
 use template_text::PieceStep;
 
-#[derive(Drop)]
+#[derive(Clone, Copy)]
 pub enum Validity {
     Valid,
     Refused(Refusal),

@@ -13,7 +13,7 @@ const NINE: u8 = b'9';
 
 const LARGEST: u64 = 4_294_967_295;
 
-#[derive(Drop)]
+#[derive(Clone, Copy)]
 pub enum NumberAnswer {
     Unreadable,
     Number(u32),

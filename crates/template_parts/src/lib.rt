@@ -8,14 +8,14 @@ ghost use Rattle.template_parts.specs.Promises.{FoundFrom};
 const SPACE: u8 = b' ';
 
 // What a place in a text holds: a part, by its start and length, or the end.
-#[derive(Drop)]
+#[derive(Clone, Copy)]
 pub enum PartAnswer {
     Part { start: usize, length: usize },
     End,
 }
 
 // What reading at a place finds, and the place after it: the same place at the end.
-#[derive(Drop)]
+#[derive(Clone, Copy)]
 pub struct PartStep {
     pub answer: PartAnswer,
     pub next: usize,
@@ -72,7 +72,7 @@ pub fn part_at(text: &[u8], at: usize) -> PartStep
 }
 
 // The place in a template text.
-#[derive(Drop)]
+#[derive(Clone, Copy)]
 pub struct TemplatePlace {
     pub at: usize,
 }

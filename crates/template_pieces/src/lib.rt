@@ -24,7 +24,7 @@ const UPPER_B: u8 = b'B';
 const LOWER_B: u8 = b'b';
 
 // The kinds of piece.
-#[derive(Drop)]
+#[derive(Clone, Copy)]
 pub struct Kind {}
 
 impl Kind {
@@ -37,7 +37,7 @@ impl Kind {
 
 // What a part is: unreadable, and why; or its kind (0 A, 1 B, 2 special), its type, and its id's start and length in the text (0
 // for A, B).
-#[derive(Drop)]
+#[derive(Clone, Copy)]
 pub enum PieceAnswer {
     Unreadable(Why),
     Read {

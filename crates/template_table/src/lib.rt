@@ -11,7 +11,7 @@ use template_entries::{Entry, Member};
 // A table has at most this many entries.
 const MOST_ENTRIES: usize = 64;
 
-#[derive(Drop)]
+#[derive(Clone, Copy)]
 pub enum TableAnswer {
     Refused(Refusal),
     Sound,

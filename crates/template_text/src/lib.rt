@@ -11,7 +11,7 @@ use template_parts::PartAnswer;
 use template_pieces::PieceAnswer;
 
 // Refused, or read with so many pieces.
-#[derive(Drop)]
+#[derive(Clone, Copy)]
 pub enum TemplateAnswer {
     Refused(Refusal),
     Read(usize),
@@ -19,7 +19,7 @@ pub enum TemplateAnswer {
 
 // What comes at a place of a text: its end; a part that cannot be read, with why, its number and its place; or a piece and the
 // place after it.
-#[derive(Drop)]
+#[derive(Clone, Copy)]
 pub enum PieceStep {
     End,
     Unreadable(Fault),
@@ -33,7 +33,7 @@ pub enum PieceStep {
 }
 
 // A template text that was read: the answer, and the numbers of its pieces, spare ones zero.
-#[derive(Drop)]
+#[derive(Clone, Copy)]
 pub struct Template {
     pub answer: TemplateAnswer,
     pub pieces: [u32; Template::PIECES],
@@ -161,7 +161,7 @@ pub fn is_short(text: &[u8]) -> bool
 }
 
 // Which of the two templates a text is for.
-#[derive(Drop)]
+#[derive(Clone, Copy)]
 pub enum Which {
     Single,
     Pair,

@@ -11,7 +11,7 @@ use template_text::Which;
 use template_walk::{CountAnswer, SequencesAnswer};
 
 // Valid; refused; or refused for a part that cannot be read, with the template that it is in.
-#[derive(Drop)]
+#[derive(Clone, Copy)]
 pub enum Validation {
     Valid,
     Refused(Refusal),

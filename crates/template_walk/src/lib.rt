@@ -12,14 +12,14 @@ use template_find::FoundEntry;
 use template_pieces::Kind;
 use template_text::PieceStep;
 
-#[derive(Drop)]
+#[derive(Clone, Copy)]
 pub enum CountAnswer {
     Refused(Refusal),
     Count(u64),
 }
 
 // Refused, or whether a template names the first and the second sequence.
-#[derive(Drop)]
+#[derive(Clone, Copy)]
 pub enum SequencesAnswer {
     Refused(Refusal),
     Named { a: bool, b: bool },

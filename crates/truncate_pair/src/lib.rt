@@ -12,7 +12,7 @@ use cut_plan::Direction;
 use record::{Encoding, Refusal, Written};
 
 // To how many rows the second of a pair is cut, or that it stays whole.
-#[derive(Drop)]
+#[derive(Clone, Copy)]
 pub enum SecondLength {
     Whole,
     Rows(u32),

@@ -17,7 +17,7 @@ use listing_request::{Asked, Request};
 const LINE: usize = 64;
 
 // How many bytes wait in the output to be written, and whether a write of those before them failed.
-#[derive(Drop)]
+#[derive(Clone, Copy)]
 struct Waiting {
     bytes: usize,
     failed: bool,
