@@ -1,0 +1,12 @@
+-- `count_longs` meets its contract. The loop's invariant, `Counting`: the count and what is left to count are all.
+-- Assumes nothing.
+use Prim.Native.Nat.{◌-◌}
+use lib.ListN.{length}
+use Rattle.chars_check.proofs.Longs.{Counting}
+use Rattle.chars_check.proofs.count_longs.Given as goal
+
+abbrev pub invariant-loop-i : goal.invariant-loop-i
+invariant-loop-i l = Counting l.block l.i l.count
+
+abbrev pub decreases-loop-i : goal.decreases-loop-i
+decreases-loop-i l = length l.block - l.i
