@@ -8,7 +8,7 @@ ghost use Rattle.std.specs.Prelude.{true, false, ◌≡◌};
 ghost use Rattle.io.specs.Counts.{IsPrefixLen};
 
 use input_lines::{Gathered, Line, PIECE, Unread};
-use libc::STDIN_FILENO;
+use std::io::{Error, Read};
 
 // An input of which nothing is read.
 pub fn start() -> Unread
@@ -23,58 +23,65 @@ pub fn start() -> Unread
 }
 
 // The next line, without its newline, put at the start of `line`. The last one may lack its newline.
-pub fn next_line(piece: &mut [u8; PIECE], line: &mut [u8], before: Unread) -> Line
+pub fn next_line(
+    rt: &(impl Input + Eprint),
+    piece: &mut [u8; PIECE],
+    line: &mut [u8],
+    before: Unread,
+) -> Line
     ensures prefix_len { IsPrefixLen result.held line.new }
     ensures failed_value { result.found ≡ true → result.unread.failed ≡ false }
 {
-    let gathered = gather(piece, line, before);
+    let gathered = gather(rt, piece, line, before);
     input_lines::told(line, gathered)
 }
 
 // Reads pieces until a newline has come, or the input's end. A proved loop has to end, and nothing says that an input does: so
-// the turns are counted down, from a number that no run uses up.
-fn gather(piece: &mut [u8; PIECE], line: &mut [u8], before: Unread) -> Gathered {
+// the turns are counted, up to a number that no run uses up.
+fn gather(
+    rt: &(impl Input + Eprint),
+    piece: &mut [u8; PIECE],
+    line: &mut [u8],
+    before: Unread,
+) -> Gathered {
     let mut gathered = input_lines::take(piece, line, 0, before);
-    let mut turns = u64::MAX;
-    while turns > 0 {
+    for _ in 0..u64::MAX {
         if gathered.ended {
             break;
         }
         if !gathered.unread.open {
             break;
         }
-        let unread = read_piece(piece);
+        let unread = read_piece(rt, piece);
         gathered = input_lines::take(piece, line, gathered.held, unread);
-        turns -= 1;
     }
     gathered
 }
 
 // The next bytes of the input, put at the start of the piece: none if a signal came or nothing is there yet, and once the input has
 // ended or a read has failed, which closes it.
-pub fn read_piece(piece: &mut [u8; PIECE]) -> Unread
+pub fn read_piece(rt: &(impl Input + Eprint), piece: &mut [u8; PIECE]) -> Unread
     ensures { IsPrefixLen result.end piece.new }
 {
-    let got = libc::read(STDIN_FILENO, piece);
-    if got < 0 {
-        return not_read();
-    }
-    let end = io::count(got, piece);
-    Unread {
-        at: 0,
-        end,
-        open: end > 0,
-        failed: false,
+    let mut reader = rt.reader();
+    match reader.read(piece) {
+        Ok(end) => Unread {
+            at: 0,
+            end,
+            open: end > 0,
+            failed: false,
+        },
+        Err(error) => not_read(rt, &error),
     }
 }
 
 // After a read that gave an error: nothing is read, and the next turn reads again, or the input has failed.
-fn not_read() -> Unread
+fn not_read(rt: &impl Eprint, error: &Error) -> Unread
     ensures { result.end ≡ 0 }
 {
-    let again = input_output::again(os::errno());
+    let again = input_output::again_after(error);
     if !again {
-        os::fail(b"standard input");
+        input_output::tell(rt, "standard input", error);
     }
     Unread {
         at: 0,

@@ -5,7 +5,7 @@
 ghost use Rattle.output.specs.Promises.{WritesBytes, Digits};
 ghost use Rattle.std.specs.Prelude.{◌≤◌, length};
 
-use libc::STDOUT_FILENO;
+use std::io::{Error, ErrorKind};
 
 // How many of some bytes were written, and whether these are all of them.
 #[derive(Clone, Copy)]
@@ -15,70 +15,93 @@ pub struct Written {
 }
 
 // Writes bytes to standard output. If that fails, a line on standard error says so, and why.
-pub fn print(bytes: &[u8]) -> Written
+pub fn print(rt: &(impl Print + Eprint), bytes: &[u8]) -> Written
     ensures { WritesBytes bytes.now result }
 {
-    let written = write(bytes);
-    if !written.all {
-        os::fail(b"standard output");
+    let ended = write_turns(rt, bytes);
+    if !ended.written.all {
+        input_output::tell(rt, "standard output", &ended.error);
     }
-    written
+    ended.written
 }
 
 // The same of a number, in decimal.
-pub fn print_number(number: u64) -> Written
+pub fn print_number(rt: &(impl Print + Eprint), number: u64) -> Written
     ensures { Digits number result }
 {
     let mut text = [0u8; 20];
     let digits = io::decimal(number, &mut text);
-    print(&text[..digits])
+    print(rt, &text[..digits])
 }
 
 // Writes bytes to standard output and says nothing if that fails: for a program that has a line on standard error already.
-// A proved loop has to end, and nothing says that a reader ever takes what is written: so the turns are counted down, from a
-// number that no run uses up.
-pub fn write(bytes: &[u8]) -> Written
+pub fn write(rt: &impl Print, bytes: &[u8]) -> Written
     ensures { WritesBytes bytes.now result }
 {
+    write_turns(rt, bytes).written
+}
+
+// What was written, and why it was not all, if it was not.
+#[derive(Drop)]
+struct Ended {
+    written: Written,
+    error: Error,
+}
+
+// Writes in as many turns as it takes. A proved loop has to end, and nothing says that a reader ever takes what is written: so the
+// turns are counted, up to a number that no run uses up.
+fn write_turns(rt: &impl Print, bytes: &[u8]) -> Ended
+    ensures { WritesBytes bytes.now result.written }
+{
     let mut count = 0;
-    let mut turns = u64::MAX;
-    while turns > 0 {
+    let mut error = nothing_taken();
+    for _ in 0..u64::MAX {
         if count == bytes.len() {
             break;
         }
-        let step = write_some(&bytes[count..]);
+        let step = write_some(rt, &bytes[count..]);
         if step.failed {
+            error = step.error;
             break;
         }
         count += step.taken;
-        turns -= 1;
     }
-    Written {
-        count,
-        all: count == bytes.len(),
+    Ended {
+        written: Written {
+            count,
+            all: count == bytes.len(),
+        },
+        error,
     }
 }
 
-// One write: how many bytes it took, and whether it failed.
-#[derive(Clone, Copy)]
+// One write: how many bytes it took, and whether it failed, and why.
+#[derive(Drop)]
 struct Step {
     taken: usize,
     failed: bool,
+    error: Error,
 }
 
 // A write that has to be made again took nothing and has not failed. One that takes nothing and gives no error has.
-fn write_some(bytes: &[u8]) -> Step
+fn write_some(rt: &impl Print, bytes: &[u8]) -> Step
     ensures { result.taken ≤ length bytes.now }
 {
-    let got = libc::write(STDOUT_FILENO, bytes);
-    if got < 0 {
-        return Step {
+    match rt.write_some(bytes) {
+        Ok(taken) => Step {
+            taken,
+            failed: taken == 0,
+            error: nothing_taken(),
+        },
+        Err(error) => Step {
             taken: 0,
-            failed: !input_output::again(os::errno()),
-        };
+            failed: !input_output::again_after(&error),
+            error,
+        },
     }
-    Step {
-        taken: io::count(got, bytes),
-        failed: got == 0,
-    }
+}
+
+// The error of a write that gives none.
+fn nothing_taken() -> Error {
+    Error::from(ErrorKind::WriteZero)
 }
