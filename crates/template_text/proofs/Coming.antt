@@ -6,8 +6,6 @@ use Prim.Native.Nat.{ℕ, ◌+◌, ◌-◌, ◌≤◌, ◌<◌}
 use native.Mathlib.Omega.{arith}
 use mathlib.Core.List.{List, [], ◌∷◌, ◌++◌}
 use lib.ListN.{length, take, drop}
-use denote.Enum.Declared.{tag_of}
-use types.Run.{OneOf, miss}
 use Rattle.record.specs.declared.Why.{Why}
 use Rattle.record.specs.declared.Fault.{Fault}
 use Rattle.record.specs.declared.Refusal.TheVariants.{PartUnreadable}
@@ -25,7 +23,6 @@ use Rattle.template_text.specs.Comes.{fault_in, with_next, of_part, comes_at}
 use Rattle.template_text.specs.Template.{unread, reads, fault_at, read_parts}
 use Rattle.template_text.specs.declared.PieceStep.{PieceStep}
 use Rattle.template_text.specs.declared.PieceStep.TheVariants.{End, Unreadable, Read}
-use Rattle.template_text.specs.contracts.PieceStep.{the_type}
 use Rattle.template_text.proofs.Walked.{Walked, walked_end, walked_bad, walked_on, walked_moves, walked_few}
 
 -- ---- The fault of a part
@@ -91,10 +88,10 @@ module _ (P : PieceStep → Type 0) (text : List ℕ) (at : ℕ) where
       go (Part start size) is = by_part P text start size (part_step_at text at).next (part_found text at is).inside (bad start size is) (good start size is) (read_part start (take size (drop start text))) refl
 
 -- neither a piece nor a fault: the end
-pub no_more : (step : PieceStep) → OneOf (0 ∷ 1 ∷ []) (tag_of the_type step) → OneOf (0 ∷ 2 ∷ []) (tag_of the_type step) → step ≡ End
+pub no_more : (step : PieceStep) → ((kind type start size next : ℕ) → step ≡ Read kind type start size next → ⊥) → ((fault : Fault) → step ≡ Unreadable fault → ⊥) → step ≡ End
 no_more End h k = refl
-no_more (Unreadable fault) h k = absurd (miss (0 ∷ 2 ∷ []) 1 tt k)
-no_more (Read kind type start size next) h k = absurd (miss (0 ∷ 1 ∷ []) 2 tt h)
+no_more (Unreadable fault) h k = absurd (k fault refl)
+no_more (Read kind type start size next) h k = absurd (h kind type start size next refl)
 
 -- ---- At any place
 
