@@ -1,6 +1,5 @@
 -- `mark` marks the rows of a sequence: after turn i, those up to row i. Assumes nothing.
 use mathlib.Core.Path.{refl}
-use Prim.Native.Nat.{◌-◌}
 use lib.ListN.{length-set}
 use Rattle.lookup_ranges.proofs.Marking.{marks_none, marks_more, marks_all}
 use borrow.Author.Rules.{rules}

@@ -1,6 +1,6 @@
 -- `mark_ranges` marks one sequence after another: after k turns, those with an id below k. Assumes nothing.
 use mathlib.Core.Path.{◌≡◌, refl, sym, ap, ◌∙◌, subst}
-use Prim.Native.Nat.{◌-◌, ◌*◌, ◌≤◌}
+use Prim.Native.Nat.{◌*◌, ◌≤◌}
 use mathlib.Core.List.{◌++◌}
 use lib.ListN.{length}
 use Rattle.record.proofs.One.{one_nodes_long}

@@ -1,11 +1,10 @@
 -- `present_of` counts the ranges: after k turns, those before place k. Assumes nothing.
-use mathlib.Core.Logic.{⊎_elim}
-use Prim.Native.Nat.{◌-◌}
 use native.Mathlib.Nat.{zero-add}
 use Rattle.lookup_ranges.proofs.Ranges.{present_more, present_same, present_end}
 use borrow.Author.Rules.{rules}
 use native.Mathlib.Omega.{arith}
 use Rattle.lookup_ranges.proofs.present_of.Goals as goal
+use Rattle.lookup_ranges.proofs.present_of.Goals.{then-nodes-k-eq1, else-nodes-k-eq1}
 
 pub loop-k-init : goal.loop-k-init
 loop-k-init c = (search rules, search rules, λ rows E h. zero-add _)
@@ -14,12 +13,12 @@ pub loop-k-preserved : goal.loop-k-preserved
 loop-k-preserved c =
     let b = c.loop-k-test.true in (
       search rules,
-      ⊎_elim (λ w. omega arith) (λ w. omega arith) c.if-nodes-k-eq1.branch,
+      elim c.if-nodes-k-eq1.branch [ then-nodes-k-eq1 w ↦ omega arith | else-nodes-k-eq1 w ↦ omega arith ],
       λ rows E h.
-          ⊎_elim
-          (λ w. omega (arith, c.loop-k.invariant.2 rows E h, present_more h c.loop-k.k b w.0.taken))
-          (λ w. omega (arith, c.loop-k.invariant.2 rows E h, present_same h c.loop-k.k b w.0.left))
-          c.if-nodes-k-eq1.branch,
+          elim c.if-nodes-k-eq1.branch [
+            | then-nodes-k-eq1 w ↦ omega (arith, c.loop-k.invariant.2 rows E h, present_more h c.loop-k.k b w.if-nodes-k-eq1.true)
+            | else-nodes-k-eq1 w ↦ omega (arith, c.loop-k.invariant.2 rows E h, present_same h c.loop-k.k b w.if-nodes-k-eq1.false)
+          ],
     )
 
 pub returns : goal.returns
