@@ -3,7 +3,6 @@ use mathlib.Core.Path.{◌≡◌, refl, sym, ap, ◌∙◌}
 use mathlib.Core.Bool.{Bool, true, false, ◌||◌}
 use Prim.Native.Nat.{ℕ}
 use lib.Dec.{eqb}
-use borrow.Author.Rules.{rules}
 use borrow.Author.Tests.{eq-eqb, ne_eqb}
 use Rattle.record.specs.Tree.{listed}
 use Rattle.record.specs.Read.{Reading, malformed, holds, is_one_or_two, of_one_or_two}
@@ -11,8 +10,7 @@ use Rattle.record.proofs.OneOrTwo.{one_or_two_counted}
 use Rattle.record_check.specs.Answers.{shape_of}
 use Rattle.record_check.specs.declared.Shape.{Shape}
 use Rattle.record_check.specs.declared.Shape.TheVariants.{Malformed, Encodings}
-use Rattle.record_check.proofs.is_one_or_two.Statement.{statement}
-use Rattle.record_check.proofs.is_one_or_two.Tie as tie
+use Rattle.record_check.proofs.is_one_or_two.Goals as goal
 
 abbrev counted : Shape → Bool
 counted Malformed = false
@@ -29,31 +27,17 @@ counted_one n e = rw (eq-eqb n 1 e)
 counted_other : (n : ℕ) → (n ≡ 1 → ⊥) → counted (Encodings n) ≡ eqb n 2
 counted_other n e = rw (ne_eqb n 1 e)
 
-check-batch-requires : tie.Need-check-batch-requires
-check-batch-requires c κs = search rules
+pub returns-then-n-eq1 : goal.returns-then-n-eq1
+returns-then-n-eq1 c =
+    let e = sym c.check_batch-shape.ensures ∙ c.in-Encodings.is in
+    sym (is_counted _ ∙ ap counted e ∙ counted_one _ c.if-n-eq1.true)
 
-enum_told : tie.Need-enum-told
-enum_told c = search rules
-
-enum-known-shape : tie.Need-enum-known-shape
-enum-known-shape c = search rules
-
-returns : tie.Need-returns
-returns c =
-    let e = sym c.before.before.before.before.check-batch.ensures ∙ c.before.before.shape.given.1 in
-    sym (is_counted _ ∙ ap counted e ∙ counted_one _ c.if1.true)
-
-returns-2 : tie.Need-returns-2
-returns-2 c =
-    let e = sym c.before.before.check-batch.ensures ∙ c.enum_told.given.1 in
+pub returns-in-Malformed : goal.returns-in-Malformed
+returns-in-Malformed c =
+    let e = sym c.check_batch-shape.ensures ∙ c.in-Malformed.is in
     sym (is_counted _ ∙ ap counted e)
 
-returns-3 : tie.Need-returns-3
-returns-3 c =
-    let e = sym c.before.before.before.before.check-batch.ensures ∙ c.before.before.shape.given.1 in
-    sym (is_counted _ ∙ ap counted e ∙ counted_other _ c.if1.false)
-
-pub is_one_or_two_spec : {M : Type 1} → statement M
-is_one_or_two_spec =
-    tie.close
-    (tie.spec check-batch-requires enum_told enum-known-shape returns returns-2 returns-3)
+pub returns-else-n-eq1 : goal.returns-else-n-eq1
+returns-else-n-eq1 c =
+    let e = sym c.check_batch-shape.ensures ∙ c.in-Encodings.is in
+    sym (is_counted _ ∙ ap counted e ∙ counted_other _ c.if-n-eq1.false)
