@@ -115,7 +115,7 @@ fn read_signature(doc: Vec<String>, text: &str, lengths: &Lengths) -> Result<Fun
     Ok(Function { doc, name, parameters, result })
 }
 
-/// Every `#[no_mangle] pub extern "C" fn` of the source, in its order.
+/// Every `#[unsafe(no_mangle)] pub extern "C" fn` of the source, in its order.
 pub fn read(source: &str, lengths: &Lengths) -> Result<Vec<Function>, String> {
     const HEAD: &str = "pub extern \"C\" fn ";
     let lines: Vec<&str> = source.lines().map(str::trim).collect();
@@ -123,9 +123,9 @@ pub fn read(source: &str, lengths: &Lengths) -> Result<Vec<Function>, String> {
     for (i, line) in lines.iter().enumerate().filter(|(_, l)| !l.starts_with("//")) {
         let Some((before, _)) = line.split_once(HEAD) else { continue };
         let attributes = lines[..i].iter().rev().take_while(|l| l.starts_with("#[")).count();
-        let marked = before.contains("#[no_mangle]") || lines[i - attributes..i].contains(&"#[no_mangle]");
+        let marked = before.contains("#[unsafe(no_mangle)]") || lines[i - attributes..i].contains(&"#[unsafe(no_mangle)]");
         if !marked {
-            return Err(format!("line {}: an exported function without #[no_mangle]", i + 1));
+            return Err(format!("line {}: an exported function without #[unsafe(no_mangle)]", i + 1));
         }
         let above = lines[..i - attributes].iter().rev().take_while(|l| l.starts_with("//"));
         let mut doc: Vec<String> = above.map(|l| l.trim_start_matches('/').trim_start().to_string()).collect();
@@ -134,9 +134,9 @@ pub fn read(source: &str, lengths: &Lengths) -> Result<Vec<Function>, String> {
         let signature = text.split_once(HEAD).unwrap().1;
         functions.push(read_signature(doc, signature, lengths).map_err(|e| format!("line {}: {e}", i + 1))?);
     }
-    let marks = lines.iter().filter(|l| l.starts_with("#[no_mangle]")).count();
+    let marks = lines.iter().filter(|l| l.starts_with("#[unsafe(no_mangle)]")).count();
     if marks != functions.len() {
-        return Err(format!("{marks} functions marked #[no_mangle], {} understood", functions.len()));
+        return Err(format!("{marks} functions marked #[unsafe(no_mangle)], {} understood", functions.len()));
     }
     Ok(functions)
 }
