@@ -1,0 +1,81 @@
+-- `join_fits` adds the largest base to a bound of the offsets, and where that is too large to the largest offset; without
+-- growing every join fits, as the operands' numbers do. Assumes nothing.
+use borrow.Author.Tests.{le-leb}
+use native.Mathlib.Omega.{arith}
+use Prim.Native.Nat.{ℕ, ◌+◌}
+use mathlib.Core.Path.{◌≡◌, sym, ap, ap₂, ◌∙◌}
+use mathlib.Core.Bool.{Bool}
+use mathlib.Core.List.{[], ◌∷◌}
+use lib.Dec.{leb}
+use Rattle.record.specs.Tree.{Encoding, forest}
+use Rattle.record.specs.Walk.{all_rows}
+use Rattle.record.specs.Standing.{One}
+use Rattle.join_trees.specs.Offsets.{most_offset, join_fits}
+use Rattle.join_trees.proofs.Offsets.{join_fits_still}
+use Rattle.join_reach.specs.Reach.{largest_offset, largest, largest_base}
+use Rattle.join_offsets.proofs.Joined.{join_fits_growing}
+use Rattle.join_offsets.proofs.Known.{stored_fits}
+use Rattle.join_offsets.proofs.Given.{offset_all, stores_here, nodes_from, rows_from_lem, nodes_counted, rows_counted}
+use Rattle.join_offsets.proofs.join_fits.Goals as goal
+use Rattle.join_offsets.proofs.join_fits.Lts as Lts
+use Rattle.join_offsets.proofs.join_fits.Reads as Reads
+use Rattle.join_offsets.proofs.join_fits.Tie as tie
+
+-- ---- Places in the code
+
+abbrev After-largest_base-base : Type 0
+After-largest_base-base = Lts.After-largest_base tie.the-claims Reads.Pre Reads.Post
+
+abbrev Start : Type 0
+Start = Lts.Start tie.the-claims Reads.Pre Reads.Post
+
+pub returns-then-not-growing : goal.returns-then-not-growing
+returns-then-not-growing c = λ S P s p.
+    let e = c.if-not-growing.true in
+    sym (ap (λ (g : Bool). join_fits g S P) e ∙ join_fits_still S P (stored_fits s.stores (λ i. omega (arith, c.shared_slice_known-2-1.given i))) (stored_fits p.stores (λ i. omega (arith, c.shared_slice_known-4-1.given i))))
+
+pub largest_base-base-requires : goal.largest_base-base-requires
+largest_base-base-requires c =
+    let o = c.requires in
+    (forest (o.S ∷ []), nodes_from (stores_here o.first.stores) (nodes_counted o.first.stores))
+
+pub offset_bound-bound-requires : goal.offset_bound-bound-requires
+offset_bound-bound-requires c =
+    let o = c.requires in
+    (all_rows (forest (o.P ∷ [])), rows_from_lem (stores_here o.second.stores) (rows_counted o.second.stores))
+
+-- the operands' places, and what decides: the largest last offset end of S, and the largest offset of P
+module _ (c : After-largest_base-base) (S P : Encoding) where
+  abbrev start : Start
+  start = c.before.before.before.before.before.before
+
+  module _ (s : One start.args.s_nodes.now start.args.s_rows.now S) where
+    base : c.largest_base-base.result ≡ largest_base (forest (S ∷ []))
+    base = c.largest_base-base.ensures (forest (S ∷ [])) (nodes_from (stores_here s.stores) (nodes_counted s.stores))
+
+    decides : join_fits start.args.growing S P ≡ leb (largest_base (forest (S ∷ [])) + largest largest_offset (forest (P ∷ []))) most_offset
+    decides = ap (λ (g : Bool). join_fits g S P) c.before.if-not-growing.false ∙ join_fits_growing S P (stored_fits s.stores (λ i. omega (arith, c.before.before.before.before.shared_slice_known-2-1.given i)))
+
+pub returns-then-wide-le-MOST_OFFSET : goal.returns-then-wide-le-MOST_OFFSET
+returns-then-wide-le-MOST_OFFSET c = λ S P s p.
+    let w = c.before.before in
+    let o = w.before in
+    let b = o.before.before in
+    let most = o.offset_bound-bound.ensures (all_rows (forest (P ∷ []))) (rows_from_lem (stores_here p.stores) (rows_counted p.stores)) in
+    sym
+    (decides b S P s
+    ∙ le-leb (largest_base (forest (S ∷ [])) + largest largest_offset (forest (P ∷ []))) most_offset
+    (omega (arith, most, offset_all (forest (P ∷ [])), base b S P s, o.wide.ensures, w.wide-2.ensures, c.if-wide-le-MOST_OFFSET.true)))
+
+pub largest_offset-offset-requires : goal.largest_offset-offset-requires
+largest_offset-offset-requires c =
+    let o = c.requires in
+    (all_rows (forest (o.P ∷ [])), rows_from_lem (stores_here o.second.stores) (rows_counted o.second.stores))
+
+pub returns : goal.returns
+returns c = λ S P s p.
+    let w = c.before.before in
+    let o = w.before in
+    let b = o.before.before.before.before.before in
+    let offset = c.wide-4.ensures ∙ o.largest_offset-offset.ensures (all_rows (forest (P ∷ []))) (rows_from_lem (stores_here p.stores) (rows_counted p.stores)) ∙ offset_all (forest (P ∷ [])) in
+    ap₂ (λ (m n : ℕ). leb (m + n) most_offset) (w.wide-3.ensures ∙ base b S P s) offset ∙ sym (decides b S P s)
