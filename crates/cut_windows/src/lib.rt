@@ -49,16 +49,6 @@ fn write_part(
     );
 }
 
-// The same side again: each window's call takes its side.
-fn same_side(direction: &Direction) -> Direction
-    ensures { result ≡ direction.now }
-{
-    match direction {
-        Direction::Left => Direction::Left,
-        Direction::Right => Direction::Right,
-    }
-}
-
 // The windows of a cut one after another, each a stretch of the n rows at j.
 fn write_windows(
     rows: &[u32],
@@ -81,11 +71,10 @@ fn write_windows(
     let mut row = b;
     let mut i: u32 = 0;
     while i < count {
-        let window = cut_plan::window(n, max, stride, same_side(&direction), i);
-        let size = lists::wide(window.end - window.start) * Encoding::ROW_WIDTH;
+        let window = cut_plan::window(n, max, stride, direction, i);
         write_part(rows, j, window, out_nodes, node, out_rows, row);
         node += Encoding::NODE_WIDTH;
-        row += size;
+        row += lists::wide(window.end - window.start) * Encoding::ROW_WIDTH;
         i += 1;
     }
 }

@@ -13,27 +13,27 @@ pub overflow_sub-window : goal.overflow_sub-window
 overflow_sub-window c =
     let v = c.args in
     let there : c.loop-i.i < length (windows_of v.n v.max v.stride v.direction) = omega (arith, c.count_windows-count.ensures v.direction) in
-    going_forward c.requires c.loop-i.invariant c.window-window.result (bounds 0 0) (rw c.same_side.ensures at c.window-window.ensures) there
+    going_forward c.requires c.loop-i.invariant c.window-window.result (bounds 0 0) c.window-window.ensures there
 
 pub write_part-requires : goal.write_part-requires
 write_part-requires c =
     let v = c.args in
     let there : c.loop-i.i < length (windows_of v.n v.max v.stride v.direction) = omega (arith, c.count_windows-count.ensures v.direction) in
-    going_asks c.requires c.loop-i.invariant c.window-window.result (bounds 0 0) (rw c.same_side.ensures at c.window-window.ensures) there
+    going_asks c.requires c.loop-i.invariant c.window-window.result (bounds 0 0) c.window-window.ensures there
 
 pub overflow_add-row : goal.overflow_add-row
 overflow_add-row c =
     let v = c.args in
     let there : c.loop-i.i < length (windows_of v.n v.max v.stride v.direction) = omega (arith, c.count_windows-count.ensures v.direction) in
-    let fits = going_fits c.requires c.loop-i.invariant c.window-window.result (bounds 0 0) (rw c.same_side.ensures at c.window-window.ensures) there in
-    omega (arith, c.wide-size.ensures, fits)
+    let fits = going_fits c.requires c.loop-i.invariant c.window-window.result (bounds 0 0) c.window-window.ensures there in
+    omega (arith, c.wide.ensures, fits)
 
 pub loop-i-preserved : goal.loop-i-preserved
 loop-i-preserved c =
     let v = c.args in
     let there : c.loop-i.i < length (windows_of v.n v.max v.stride v.direction) = omega (arith, c.count_windows-count.ensures v.direction) in
-    rw c.wide-size.ensures
-    (going_on c.requires c.loop-i.invariant c.window-window.result (bounds 0 0) (rw c.same_side.ensures at c.window-window.ensures) there c.write_part.auto.out_nodes c.write_part.auto.out_rows c.write_part.ensures)
+    rw c.wide.ensures
+    (going_on c.requires c.loop-i.invariant c.window-window.result (bounds 0 0) c.window-window.ensures there c.write_part.auto.out_nodes c.write_part.auto.out_rows c.write_part.ensures)
 
 pub returns : goal.returns
 returns c =
