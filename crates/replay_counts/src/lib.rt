@@ -32,11 +32,11 @@ pub fn start() -> Progress
 }
 
 // Counts what a line turned out to be, and prints it unless its answers are the same.
-pub fn counted(before: Progress, outcome: Outcome) -> Progress
+pub fn counted(rt: &(impl Print + Eprint), before: Progress, outcome: Outcome) -> Progress
     ensures { Counted before outcome result }
 {
     let lines = one_more(before.lines);
-    let failed = !print_outcome(lines, outcome);
+    let failed = !print_outcome(rt, lines, outcome);
     let mut progress = before;
     progress.lines = lines;
     progress.failed = failed;
@@ -57,12 +57,12 @@ pub fn counted(before: Progress, outcome: Outcome) -> Progress
 }
 
 // Whether it could be printed.
-fn print_outcome(line: u64, outcome: Outcome) -> bool {
+fn print_outcome(rt: &(impl Print + Eprint), line: u64, outcome: Outcome) -> bool {
     match outcome {
         Outcome::Skipped => true,
         Outcome::Same => true,
-        Outcome::Differs => print_line(line, b" differs\n"),
-        Outcome::Bad => print_line(line, b" bad\n"),
+        Outcome::Differs => print_line(rt, line, b" differs\n"),
+        Outcome::Bad => print_line(rt, line, b" bad\n"),
     }
 }
 
@@ -73,15 +73,15 @@ fn one_more(count: u64) -> u64
     if count < u64::MAX { count + 1 } else { count }
 }
 
-fn print_line(number: u64, what: &[u8]) -> bool {
-    if !print_count(b"line ", number) {
+fn print_line(rt: &(impl Print + Eprint), number: u64, what: &[u8]) -> bool {
+    if !print_count(rt, b"line ", number) {
         return false;
     }
-    output::print(what).all
+    output::print(rt, what).all
 }
 
 // Prints the counts, once all lines have ended: not if a read or a write failed, of which standard error has a line.
-pub fn print_counts(progress: Progress, unread: Unread) -> Progress
+pub fn print_counts(rt: &(impl Print + Eprint), progress: Progress, unread: Unread) -> Progress
     ensures { Kept progress result }
 {
     let mut after = progress;
@@ -91,26 +91,26 @@ pub fn print_counts(progress: Progress, unread: Unread) -> Progress
     if progress.failed {
         return after;
     }
-    after.failed = !print_all(progress);
+    after.failed = !print_all(rt, progress);
     after
 }
 
-fn print_all(progress: Progress) -> bool {
-    if !print_count(b"cases ", progress.cases) {
+fn print_all(rt: &(impl Print + Eprint), progress: Progress) -> bool {
+    if !print_count(rt, b"cases ", progress.cases) {
         return false;
     }
-    if !print_count(b", differ ", progress.differ) {
+    if !print_count(rt, b", differ ", progress.differ) {
         return false;
     }
-    if !print_count(b", bad ", progress.bad) {
+    if !print_count(rt, b", bad ", progress.bad) {
         return false;
     }
-    output::print(b"\n").all
+    output::print(rt, b"\n").all
 }
 
-fn print_count(label: &[u8], count: u64) -> bool {
-    if !output::print(label).all {
+fn print_count(rt: &(impl Print + Eprint), label: &[u8], count: u64) -> bool {
+    if !output::print(rt, label).all {
         return false;
     }
-    output::print_number(count).all
+    output::print_number(rt, count).all
 }
