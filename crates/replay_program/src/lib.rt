@@ -43,6 +43,7 @@ pub struct Next {
 
 // The next line of the input and its case, whose numbers are put at the start of `numbers`.
 pub fn next_case(
+    rt: &(impl Input + Eprint),
     piece: &mut [u8; PIECE],
     line: &mut [u8; LINE],
     numbers: &mut [u32; NUMBERS],
@@ -50,7 +51,7 @@ pub fn next_case(
 ) -> Next
     ensures { Inside result.case (length numbers.new) }
 {
-    let next = input::next_line(piece, line, before);
+    let next = input::next_line(rt, piece, line, before);
     let unread = next.unread;
     let case = held_case(line, next, numbers);
     Next {
