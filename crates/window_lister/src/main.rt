@@ -23,34 +23,37 @@ struct Waiting {
     failed: bool,
 }
 
-fn main() {
+fn main(rt: HostRuntime) {
     let mut piece = [0u8; PIECE];
     let mut line = [0u8; LINE];
     let mut out = io::large_buffer();
-    list_input(&mut piece, &mut line, &mut out);
+    list_input(&rt, &mut piece, &mut line, &mut out);
 }
 
-// Answers all of the input. A proved loop has to end, and nothing says that an input does: so the turns are counted down, from
-// a number that no run uses up.
-fn list_input(piece: &mut [u8; PIECE], line: &mut [u8; LINE], out: &mut [u8])
+// Answers all of the input. A proved loop has to end, and nothing says that an input does: so the turns are counted, up to a
+// number that no run uses up.
+fn list_input(
+    rt: &(impl Input + Print + Eprint),
+    piece: &mut [u8; PIECE],
+    line: &mut [u8; LINE],
+    out: &mut [u8],
+)
     requires { ReadyOutput out.old 0 }
 {
     let mut unread = input::start();
     let mut waiting = waits(0);
-    let mut turns = u64::MAX;
-    while turns > 0 {
-        let next = input::next_line(piece, line, unread);
+    for _ in 0..u64::MAX {
+        let next = input::next_line(rt, piece, line, unread);
         unread = next.unread;
         if !next.found {
             break;
         }
-        waiting = answer(asked(line, next), out, waiting.bytes);
+        waiting = answer(rt, asked(line, next), out, waiting.bytes);
         if waiting.failed {
             return;
         }
-        turns -= 1;
     }
-    finish(out, waiting.bytes, unread);
+    finish(rt, out, waiting.bytes, unread);
 }
 
 fn waits(bytes: usize) -> Waiting
@@ -74,23 +77,28 @@ fn asked(line: &[u8], next: Line) -> Asked
 }
 
 // Puts an answer behind what waits.
-fn answer(asked: Asked, out: &mut [u8], waiting: usize) -> Waiting
+fn answer(rt: &(impl Print + Eprint), asked: Asked, out: &mut [u8], waiting: usize) -> Waiting
     requires { ReadyOutput out.old waiting }
     ensures { ReadyOutput out.new result.bytes }
 {
-    let room = make_room(out, waiting);
+    let room = make_room(rt, out, waiting);
     if room.failed {
         return room;
     }
     let next = listing::write_first(asked, out, room.bytes);
     match asked {
         Asked::BadLine => waits(next),
-        Asked::Cut(request) => list_windows(request, out, next),
+        Asked::Cut(request) => list_windows(rt, request, out, next),
     }
 }
 
 // Puts the windows behind what waits, in as many blocks as they need.
-fn list_windows(request: Request, out: &mut [u8], waiting: usize) -> Waiting
+fn list_windows(
+    rt: &(impl Print + Eprint),
+    request: Request,
+    out: &mut [u8],
+    waiting: usize,
+) -> Waiting
     requires { ReadyOutput out.old waiting }
     ensures { ReadyOutput out.new result.bytes }
 {
@@ -98,7 +106,7 @@ fn list_windows(request: Request, out: &mut [u8], waiting: usize) -> Waiting
     let mut next: u32 = 0;
     let mut place = waiting;
     while next < count {
-        let room = make_room(out, place);
+        let room = make_room(rt, out, place);
         if room.failed {
             return room;
         }
@@ -110,12 +118,12 @@ fn list_windows(request: Request, out: &mut [u8], waiting: usize) -> Waiting
 }
 
 // The place behind what waits, once there is room for a line after it.
-fn make_room(out: &[u8], waiting: usize) -> Waiting
+fn make_room(rt: &(impl Print + Eprint), out: &[u8], waiting: usize) -> Waiting
     requires { ReadyOutput out.now waiting }
     ensures { LineRoom out.now result.bytes }
 {
     if out.len() - waiting < listing::LONGEST {
-        let written = output::print(&out[..waiting]);
+        let written = output::print(rt, &out[..waiting]);
         return Waiting {
             bytes: 0,
             failed: !written.all,
@@ -125,12 +133,12 @@ fn make_room(out: &[u8], waiting: usize) -> Waiting
 }
 
 // Writes what waits once the input has ended. After a read that failed standard error has a line already.
-fn finish(out: &[u8], waiting: usize, unread: Unread)
+fn finish(rt: &(impl Print + Eprint), out: &[u8], waiting: usize, unread: Unread)
     requires { ReadyOutput out.now waiting }
 {
     if unread.failed {
-        output::write(&out[..waiting]);
+        output::write(rt, &out[..waiting]);
         return;
     }
-    output::print(&out[..waiting]);
+    output::print(rt, &out[..waiting]);
 }
