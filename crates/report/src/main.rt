@@ -21,28 +21,33 @@ use report_lines::ROOM;
 use report_stored::{MOST, NUMBERS};
 use report_trees::Added;
 
-fn main() {
+fn main(rt: HostRuntime) {
     let mut piece = [0u8; PIECE];
     let mut batch = [0u8; MOST];
     let mut numbers = [0u32; NUMBERS];
-    report_all(&mut piece, &mut batch, &mut numbers);
+    report_all(&rt, &mut piece, &mut batch, &mut numbers);
 }
 
 // Takes the input up to its end or the first refusal, and prints what is told of it. A proved loop has to end, and nothing says that
 // an input does: so the turns are counted down, from a number that no run uses up.
-fn report_all(piece: &mut [u8; PIECE], batch: &mut [u8], numbers: &mut [u32])
+fn report_all(
+    rt: &(impl Input + Print + Eprint),
+    piece: &mut [u8; PIECE],
+    batch: &mut [u8],
+    numbers: &mut [u32],
+)
     requires { LentStores batch.old numbers.old }
 {
     let mut held = report_held::start();
     let mut unread = input::start();
     let mut turns = u64::MAX;
     while turns > 0 {
-        unread = input::read_piece(piece);
+        unread = input::read_piece(rt, piece);
         held = take(piece, unread, held, batch, numbers);
         turns = turns_left(turns, unread, held);
     }
     if !unread.failed {
-        print_answer(report_held::finish(held, batch));
+        print_answer(rt, report_held::finish(held, batch));
     }
 }
 
@@ -70,10 +75,10 @@ fn turns_left(turns: u64, unread: Unread, held: Held) -> u64
 }
 
 // Prints a report, or the number of a refusal.
-fn print_answer(answer: Added) -> Written
+fn print_answer(rt: &(impl Print + Eprint), answer: Added) -> Written
     ensures { WritesBytes (answer_lines answer) result }
 {
     let mut out = [0u8; ROOM];
     let count = report_lines::write_answer(answer, &mut out);
-    output::print(&out[..count])
+    output::print(rt, &out[..count])
 }
