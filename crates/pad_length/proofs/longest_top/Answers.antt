@@ -1,36 +1,26 @@
 -- `longest_top` goes through the nodes and counts the windows still to come, so that it knows which node is at the top.
 -- Assumes nothing.
-use Prim.Native.Nat.{◌+◌, ◌≤◌}
 use native.Mathlib.Nat.{pos_of_ne-zero}
 use native.Mathlib.Omega.{arith}
-use lib.ListN.{length}
-use Rattle.record.specs.Flat.{node_width}
 use Rattle.record.proofs.Passing.{nodes_few}
 use Rattle.pad_length.proofs.Searching.{searching_start, searching_fits, searching_pending, searching_top, searching_window, searching_end}
 use Rattle.pad_length.proofs.longest_top.Goals as goal
-use Rattle.pad_length.proofs.longest_top.Lts as Lts
-use Rattle.pad_length.proofs.longest_top.Reads as Reads
-use Rattle.pad_length.proofs.longest_top.Tie as tie
 
--- ---- Places in the code
-
-abbrev In-loop-i : Type 0
-In-loop-i = Lts.In-loop tie.the-claims Reads.Pre Reads.Post goal.the-invariant-loop-i goal.the-decreases-loop-i
-
--- a turn passes a whole node
-fits : (c : In-loop-i) → c.loop-i.i + node_width ≤ length c.args.nodes.now
-fits c = let p = c.requires in searching_fits (c.loop-i.invariant.2 p.0 p.1) c.loop-i-test.true
+-- A turn passes a whole node, by `searching_fits`.
 
 pub loop-i-init : goal.loop-i-init
 loop-i-init c = (omega arith, omega arith, λ f h. searching_start h)
 
 pub bounds-nodes-i-in-loop-i : goal.bounds-nodes-i-in-loop-i
-bounds-nodes-i-in-loop-i c = omega (arith, fits c.before.before.before)
+bounds-nodes-i-in-loop-i c = let p = c.requires in omega (arith, searching_fits (c.loop-i.invariant.2 p.0 p.1) c.loop-i-test.true)
 
 pub loop-i-preserved-then-pending-eq0 : goal.loop-i-preserved-then-pending-eq0
 loop-i-preserved-then-pending-eq0 c =
-    let l = c.before.before.before.before.before in
-    (omega (arith, fits l), omega (arith, c.larger_number-most.ensures, l.loop-i.invariant.1, c.shared_slice_known-in-loop-i-1.given l.loop-i.i), λ f h. rw c.larger_number-most.ensures (searching_top (l.loop-i.invariant.2 f h) l.loop-i-test.true c.if-pending-eq0.true))
+    let p = c.requires in (
+      omega (arith, searching_fits (c.loop-i.invariant.2 p.0 p.1) c.loop-i-test.true),
+      omega (arith, c.larger_number-most.ensures, c.loop-i.invariant.1, c.type_inv.nodes c.loop-i.i),
+      λ f h. rw c.larger_number-most.ensures (searching_top (c.loop-i.invariant.2 f h) c.loop-i-test.true c.if-pending-eq0.true),
+    )
 
 pub overflow_add-pending : goal.overflow_add-pending
 overflow_add-pending c =
@@ -39,8 +29,11 @@ overflow_add-pending c =
 
 pub loop-i-preserved : goal.loop-i-preserved
 loop-i-preserved c =
-    let l = c.before.before.before.before in
-    (omega (arith, fits l), l.loop-i.invariant.1, λ f h. searching_window (l.loop-i.invariant.2 f h) l.loop-i-test.true (pos_of_ne-zero c.if-pending-eq0.false))
+    let p = c.requires in (
+      omega (arith, searching_fits (c.loop-i.invariant.2 p.0 p.1) c.loop-i-test.true),
+      c.loop-i.invariant.1,
+      λ f h. searching_window (c.loop-i.invariant.2 f h) c.loop-i-test.true (pos_of_ne-zero c.if-pending-eq0.false),
+    )
 
 pub returns : goal.returns
 returns c f h = searching_end (c.loop-i.invariant.2 f h) c.loop-i-test.false
