@@ -24,33 +24,36 @@ const POOL: usize = 64;
 // What stands in each lent number before a call.
 const BEFORE: u32 = 7;
 
-fn main() {
+fn main(rt: HostRuntime) {
     let mut piece = [0u8; PIECE];
     let mut line = [0u8; LINE];
     let mut numbers = [0u32; NUMBERS];
-    replay_input(&mut piece, &mut line, &mut numbers);
+    replay_input(&rt, &mut piece, &mut line, &mut numbers);
 }
 
 // Replays all of the input, up to a read or a write that fails. A proved loop has to end, and nothing says that an input does:
-// so the turns are counted down, from a number that no run uses up.
-fn replay_input(piece: &mut [u8; PIECE], line: &mut [u8; LINE], numbers: &mut [u32; NUMBERS]) {
+// so the turns are counted, up to a number that no run uses up.
+fn replay_input(
+    rt: &(impl Input + Print + Eprint),
+    piece: &mut [u8; PIECE],
+    line: &mut [u8; LINE],
+    numbers: &mut [u32; NUMBERS],
+) {
     let mut progress = replay_counts::start();
     let mut unread = input::start();
-    let mut turns = u64::MAX;
-    while turns > 0 {
-        let next = replay_program::next_case(piece, line, numbers, unread);
+    for _ in 0..u64::MAX {
+        let next = replay_program::next_case(rt, piece, line, numbers, unread);
         unread = next.unread;
         if !next.found {
             break;
         }
         let case = next.case;
-        progress = replay_counts::counted(progress, replay_parts(case, numbers));
+        progress = replay_counts::counted(rt, progress, replay_parts(case, numbers));
         if progress.failed {
             break;
         }
-        turns -= 1;
     }
-    replay_counts::print_counts(progress, unread);
+    replay_counts::print_counts(rt, progress, unread);
 }
 
 fn replay_parts(case: Case, numbers: &[u32]) -> Outcome
