@@ -4,7 +4,7 @@ use mathlib.Core.Path.{◌≡◌, ap, subst, ◌∙◌}
 use mathlib.Core.List.{List, [], ◌∷◌, ◌++◌, append_assoc}
 use Prim.Native.Nat.{ℕ, ◌+◌, ◌*◌}
 use native.Mathlib.Omega.{arith}
-use Rattle.record.specs.Tree.{Forest, Encoding, listed, forest}
+use Rattle.record.specs.Tree.{Forest, Encoding, listed, forest, node, none}
 use Rattle.record.specs.Flat.{row_width, node_width, flat_nodes, flat_rows}
 use Rattle.record.specs.WellFormed.{Fine, nodes_in, rows_in}
 use Rattle.record.specs.Standing.{Here}
@@ -45,4 +45,4 @@ module _ {nodes rows : List ℕ} where
 
   pub here_rest : {i j : ℕ} (xs : List Encoding) (f : Forest) → Here nodes rows i j (forest (xs ++ listed f)) → Here nodes rows (i + nodes_in (forest xs) * node_width) (j + rows_in (forest xs) * row_width) f
   here_rest {i} {j} [] f h = here_at (omega arith) (omega arith) (subst (λ (y : Forest). Here nodes rows i j y) (forest_listed f) h)
-  here_rest {i} {j} (E ∷ xs) f h = here_at (omega arith) (omega arith) (here_rest xs f (here_next h))
+  here_rest {i} {j} (E ∷ xs) f h = here_at (omega arith) (omega arith) (here_rest {i = i + nodes_in (node E.rows E.ranges E.below none) * node_width} {j = j + rows_in (node E.rows E.ranges E.below none) * row_width} xs f (here_next h))
