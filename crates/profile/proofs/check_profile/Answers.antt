@@ -1,5 +1,5 @@
 -- `check_profile` meets its contract: refused with 1, or what is told of the first break. Assumes nothing.
-use mathlib.Core.Path.{◌≡◌, sym, ◌∙◌}
+use mathlib.Core.Path.{sym, ◌∙◌}
 use Rattle.record_check.proofs.Checked.{any_there}
 use Rattle.profile.proofs.Answer.{says_so, answered_malformed, answered_passes, answered_breaks}
 use Rattle.profile.proofs.check_profile.Goals as goal

@@ -1,6 +1,5 @@
 -- `check_stretches` meets its contract. The loop's invariant, `Stretching`: the rows of the stretches passed, and that no range reaches over
 -- the row that is next. Assumes nothing.
-use Prim.Native.Nat.{◌-◌}
 use native.Mathlib.Omega.{arith}
 use Rattle.profile_node.proofs.Stretching.{stretching_start, stretching_more, stretching_end, stretched_here, stretch_inside, marks_small, rows_inside, checked_known, passed}
 use Rattle.profile_node.proofs.check_stretches.Goals as goal

@@ -1,10 +1,9 @@
 -- `first_break` meets its contract. The loop's invariant, `Walking`: what the nodes passed break, and that with it what is to come decides.
 -- Assumes nothing.
 use mathlib.Core.Path.{◌≡◌}
-use Prim.Native.Nat.{◌+◌, ◌-◌, ◌*◌, ◌≤◌, ◌<◌}
-use lib.ListN.{length, get_or}
+use Prim.Native.Nat.{◌+◌, ◌<◌}
+use lib.ListN.{get_or}
 use native.Mathlib.Omega.{arith}
-use Rattle.record.specs.Flat.{row_width, node_width}
 use Rattle.profile_nodes.proofs.Walking.{walking_start, walking_end, walking_there, walking_stops, walking_next, walking_fits, walking_few}
 use Rattle.profile_nodes.proofs.first_break.Goals as goal
 use Rattle.profile_nodes.proofs.first_break.Goals.{then-left-gt0+else-windows-gt0, else-left-gt0}

@@ -1,6 +1,5 @@
 -- `in_order` meets its contract. The loop's invariant, `Ordering`: the ranges passed have ended where the next may begin. Assumes nothing.
 use mathlib.Core.Bool.{false≢true}
-use Prim.Native.Nat.{◌-◌}
 use Rattle.profile_order.proofs.Ordering.{ordering_start, ordering_absent, ordering_next, ordering_end}
 use Rattle.profile_order.proofs.in_order.Goals as goal
 use Rattle.profile_order.proofs.in_order.Goals.{then-nodes-at-eq1+else-nodes-at, else-nodes-at-eq1}

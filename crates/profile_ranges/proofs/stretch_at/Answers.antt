@@ -1,8 +1,7 @@
 -- `stretch_at` finds the end of the stretch. The loop's invariant, `Stretching`: no range before place k holds any of its rows.
 -- Assumes nothing.
 use mathlib.Core.Logic.{inl, inr}
-use Prim.Native.Nat.{◌-◌}
-use Rattle.profile_ranges.proofs.Stretching.{stretching_start, stretching_absent, stretching_there, stretching_found, stretching_end}
+use Rattle.profile_ranges.proofs.Stretching.{stretching_absent, stretching_there, stretching_found, stretching_end}
 use native.Mathlib.Omega.{arith}
 use Rattle.profile_ranges.proofs.stretch_at.Goals as goal
 use Rattle.profile_ranges.proofs.stretch_at.Goals.{then-nodes-at-eq1+then-start-row+else-row-nodes, then-nodes-at-eq1+else-start-row+then-start-end, then-nodes-at-eq1+else-start-row+else-start-end, else-nodes-at-eq1}

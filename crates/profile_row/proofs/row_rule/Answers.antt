@@ -4,7 +4,6 @@ use Rattle.profile_row.proofs.row_rule.Goals as goal
 use Rattle.profile_row.proofs.row_rule.Goals.{then-attention-eq0+else-special-ne1, else-attention-eq0}
 use Rattle.profile_row.proofs.row_rule.Lts as Lts
 use Rattle.profile_row.proofs.row_rule.Reads as Reads
-use Rattle.profile_row.proofs.row_rule.Tie as tie
 
 -- ---- Places in the code
 

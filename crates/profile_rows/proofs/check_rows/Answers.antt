@@ -1,6 +1,5 @@
 -- `check_rows` meets its contract. The loop's invariant, `Checking`: what was found is of the rows passed. Assumes nothing.
 use mathlib.Core.Path.{◌≡◌, refl, ◌∙◌}
-use Prim.Native.Nat.{◌-◌}
 use lib.ListN.{drop}
 use native.Mathlib.Omega.{arith}
 use Rattle.record.specs.Flat.{row_at}

@@ -1,7 +1,6 @@
 -- `count_holding` counts the ranges that hold the row. The loop's invariant, `Counting`: those before place k are counted.
 -- Assumes nothing.
 use mathlib.Core.Logic.{inl, inr}
-use Prim.Native.Nat.{◌-◌}
 use Rattle.profile_shared.proofs.Counting.{counting_start, counting_more, counting_same, counting_end}
 use Rattle.profile_shared.proofs.count_holding.Goals as goal
 use Rattle.profile_shared.proofs.count_holding.Goals.{then-nodes-at-eq1+then-nodes-at+then-row-nodes, else-nodes-at-eq1, else-nodes-at-eq1-via-then-nodes-at-eq1+then-nodes-at+else-row-nodes, else-nodes-at-eq1-via-then-nodes-at-eq1+else-nodes-at, else-nodes-at-eq1-via-else-nodes-at-eq1}

@@ -1,8 +1,7 @@
 -- `first_shared` finds the first row in two ranges. The loop's invariant, `Sharing`: what is found so far is no later than any
 -- such start before place k. Assumes nothing.
 use mathlib.Core.Logic.{inl, inr}
-use Prim.Native.Nat.{◌-◌}
-use Rattle.profile_shared.proofs.Sharing.{sharing_start, sharing_same, sharing_found, sharing_end}
+use Rattle.profile_shared.proofs.Sharing.{sharing_same, sharing_found, sharing_end}
 use native.Mathlib.Omega.{arith}
 use Rattle.profile_shared.proofs.first_shared.Goals as goal
 use Rattle.profile_shared.proofs.first_shared.Goals.{then-nodes-at-eq1+then-start-first+then-count_holding-gt1, then-nodes-at-eq1+then-start-first+else-count_holding-gt1, then-nodes-at-eq1+else-start-first, else-nodes-at-eq1}
