@@ -1,34 +1,17 @@
 -- `noddrefyr_text` hands on what `lookup_texts::text` answers. Assumes nothing.
 use mathlib.Core.Path.{refl}
-use Prim.Native.Nat.{ℕ}
-use mathlib.Core.List.{List}
 use Rattle.c_texts.specs.Answers.{text_crossed}
 use Rattle.c_crossing.proofs.Crossing.{crosses}
 use Rattle.c_texts.proofs.noddrefyr_text.Goals as goal
-use Rattle.c_texts.proofs.noddrefyr_text.Lts as Lts
-use Rattle.c_texts.proofs.noddrefyr_text.Reads as Reads
-use Rattle.c_texts.proofs.noddrefyr_text.Tie as tie
-
--- ---- Places in the code
-
-abbrev After-text-found : Type 0
-After-text-found = Lts.After-text tie.the-claims Reads.Pre Reads.Post
-
--- what the lent numbers were
-abbrev was : After-text-found → List ℕ
-was s = s.args.answer.now
 
 pub returns-in-Refused : goal.returns-in-Refused
 returns-in-Refused c =
-    let s = c.before.before.before in
-    crosses (text_crossed (was s)) s.text-found.ensures c.in-Refused.is c.number.ensures refl
+    crosses (text_crossed c.args.answer.now) c.text-found.ensures c.in-Refused.is c.number.ensures refl
 
 pub returns-in-Nothing : goal.returns-in-Nothing
 returns-in-Nothing c =
-    let s = c.before.before.before in
-    crosses (text_crossed (was s)) s.text-found.ensures c.in-Nothing.is refl refl
+    crosses (text_crossed c.args.answer.now) c.text-found.ensures c.in-Nothing.is refl refl
 
 pub returns-in-Found : goal.returns-in-Found
 returns-in-Found c =
-    let s = c.before.before.before in
-    crosses (text_crossed (was s)) s.text-found.ensures c.in-Found.is refl refl
+    crosses (text_crossed c.args.answer.now) c.text-found.ensures c.in-Found.is refl refl
