@@ -7,7 +7,7 @@ use Rattle.template_find.proofs.Finding.{id_inside, id_same}
 use Rattle.template_find.proofs.has_id.Goals as goal
 
 pub overflow_cast-start : goal.overflow_cast-start
-overflow_cast-start c = omega (arith, c.shared_slice_known-4-1.given (c.args.i * entry_width + 0))
+overflow_cast-start c = omega (arith, c.type_inv.entries (c.args.i * entry_width + 0))
 
 pub slice_bounds-same-end : goal.slice_bounds-same-end
 slice_bounds-same-end c =

@@ -1,6 +1,5 @@
 -- `same` meets its contract. The loop's invariant, `Matching`: the bytes passed are the same. Assumes nothing.
 use mathlib.Core.Path.{sym}
-use Prim.Native.Nat.{◌-◌}
 use native.Mathlib.Omega.{arith}
 use Rattle.template_find.proofs.Bytes.{other_length, match_start, match_on, match_fails, match_end}
 use Rattle.template_find.proofs.same.Goals as goal

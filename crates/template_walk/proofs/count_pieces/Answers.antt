@@ -1,12 +1,6 @@
 -- `count_pieces` meets its contract. The loop's invariant, `Counting`: the sum of what the pieces passed add. Assumes nothing.
-use mathlib.Core.Path.{◌≡◌, sym, ◌∙◌}
-use mathlib.Core.Bool.{true}
-use Prim.Native.Nat.{◌+◌, ◌-◌, ◌≤◌}
+use mathlib.Core.Path.{sym, ◌∙◌}
 use native.Mathlib.Omega.{arith}
-use lib.ListN.{length}
-use Rattle.template_text.specs.Comes.{comes_at}
-use Rattle.template_text.specs.Template.{short}
-use Rattle.template_text.specs.declared.PieceStep.TheVariants.{Read}
 use Rattle.template_text.proofs.Coming.{no_more}
 use Rattle.template_walk.proofs.Counting.{count_start, count_long, count_end, count_bad, count_passing, count_few, count_other, count_special}
 use Rattle.template_walk.proofs.count_pieces.Goals as goal

@@ -1,8 +1,7 @@
 -- `ids_of` meets its contract. Assumes nothing.
 use mathlib.Core.Path.{◌≡◌, ap, sym, ◌∙◌}
-use Prim.Native.Nat.{◌+◌, ◌*◌, ◌/◌, ◌<◌}
+use Prim.Native.Nat.{◌+◌, ◌*◌}
 use native.Mathlib.Omega.{arith}
-use lib.ListN.{length}
 use Rattle.template_entries.specs.Table.{entry_width}
 use Rattle.template_entries.specs.Rows.{members_of}
 use Rattle.template_entries.specs.declared.Members.{Members}
@@ -23,4 +22,4 @@ returns c =
     let entries = c.args.entries.now in
     let many : c.wide.result ≡ (members_of entries k).count = c.wide.ensures ∙ ap (λ (m : Members). m.count) c.members_of-members.ensures in
     ids_found _ _ _ (sym c.find.ensures ∙ c.in-At.is) many
-    (omega (arith, many, ap (λ (m : Members). m.count) (members_read entries k (found_among _ _ _ (sym c.find.ensures ∙ c.in-At.is))), c.shared_slice_known-1.given (k * entry_width + 3)))
+    (omega (arith, many, ap (λ (m : Members). m.count) (members_read entries k (found_among _ _ _ (sym c.find.ensures ∙ c.in-At.is))), c.type_inv.entries (k * entry_width + 3)))

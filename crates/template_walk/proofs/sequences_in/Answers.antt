@@ -1,12 +1,6 @@
 -- `sequences_in` meets its contract. The loop's invariant, `Naming`: the sequences that the pieces passed name. Assumes nothing.
-use mathlib.Core.Path.{◌≡◌, sym, ◌∙◌}
-use mathlib.Core.Bool.{true}
-use Prim.Native.Nat.{◌-◌}
-use lib.ListN.{length}
-use Rattle.template_text.specs.Comes.{comes_at}
-use Rattle.template_text.specs.Template.{short}
-use Rattle.template_text.specs.declared.PieceStep.TheVariants.{Read}
-use Rattle.template_text.proofs.Coming.{Passing, comes, no_more}
+use mathlib.Core.Path.{sym, ◌∙◌}
+use Rattle.template_text.proofs.Coming.{comes, no_more}
 use Rattle.template_walk.proofs.Naming.{name_start, name_long, name_end, name_bad, name_on}
 use Rattle.template_walk.proofs.sequences_in.Goals as goal
 
