@@ -1,6 +1,6 @@
 -- What the functions ask and give that take the steps of a template: where the steps and what they speak of stand.
 -- Assumes nothing: these are definitions.
-use Rattle.std.specs.Prelude.{◌≡◌, ℕ, ◌+◌, ◌/◌, ◌<◌, ◌≤◌, length}
+use Rattle.std.specs.Prelude.{◌≡◌, ℕ, ◌/◌, ◌<◌, ◌≤◌, length}
 use Rattle.std.proofs.Math.Option.{Option, none as nothing, some}
 use mathlib.Core.List.{List, ◌++◌, flat_map, [], ◌∷◌}
 use Rattle.record.specs.Tree.{Encoding, forest}

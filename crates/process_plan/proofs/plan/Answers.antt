@@ -1,7 +1,6 @@
 -- `plan` meets its contract. The loop's invariant, `Planning`: the steps of the pieces passed have been written. The measure is
 -- what is left of the text. Assumes nothing.
 use mathlib.Core.Path.{sym, ◌∙◌}
-use Prim.Native.Nat.{◌-◌}
 use native.Mathlib.Omega.{arith}
 use Rattle.process_plan.specs.declared.NextStep.TheVariants.{LeftOut, Next}
 use Rattle.process_plan.proofs.Next.{Says, next_says}

@@ -1,7 +1,6 @@
 -- `rows_of_steps` adds up what each step joins. Assumes nothing.
 use mathlib.Core.Path.{◌∙◌}
 use mathlib.Core.Option.{some}
-use Prim.Native.Nat.{◌-◌}
 use native.Mathlib.Omega.{arith}
 use Rattle.process_rows.proofs.Alone.{alone_empty}
 use Rattle.process_rows.proofs.Walked.{walked_start, steps_inside, walked_end}

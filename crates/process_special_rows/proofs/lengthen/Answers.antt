@@ -1,10 +1,8 @@
 -- `lengthen` goes through the nodes in the order in which they stand, each with its rows. Assumes nothing.
 use mathlib.Core.Path.{◌≡◌, refl, ap}
-use Prim.Native.Nat.{ℕ, ◌+◌, ◌*◌, ◌-◌, ◌≤◌}
+use Prim.Native.Nat.{ℕ, ◌+◌, ◌*◌, ◌≤◌}
 use native.Mathlib.Omega.{arith}
-use mathlib.Core.List.{List}
 use lib.ListN.{length, get_or, length-set}
-use Rattle.record.specs.Tree.{Row}
 use Rattle.record.specs.Flat.{row_width}
 use Rattle.process_special_rows.specs.Lengthened.{special_rows}
 use Rattle.process_special_rows.proofs.Specials.{specials_number}

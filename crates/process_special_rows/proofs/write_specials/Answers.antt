@@ -1,6 +1,6 @@
 -- `write_specials` writes a row for each member: after k turns, those of the first k. Assumes nothing.
 use mathlib.Core.Path.{◌≡◌, refl, ap, ◌∙◌}
-use Prim.Native.Nat.{ℕ, ◌-◌}
+use Prim.Native.Nat.{ℕ}
 use native.Mathlib.Omega.{arith}
 use mathlib.Core.List.{flat_map}
 use lib.Seq.{sets}

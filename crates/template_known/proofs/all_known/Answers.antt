@@ -1,13 +1,10 @@
 -- `all_known` meets its contract. The outer loop's invariant, `Knowing`: the pieces passed have known ids; the inner one's,
 -- `Seeking`: no entry passed has the id. Assumes nothing.
-use mathlib.Core.Path.{◌≡◌, sym, ◌∙◌}
-use Prim.Native.Nat.{◌+◌, ◌-◌, ◌/◌, ◌≤◌, ◌<◌}
+use mathlib.Core.Path.{sym, ◌∙◌}
+use Prim.Native.Nat.{◌+◌, ◌≤◌}
 use native.Mathlib.Omega.{arith}
 use lib.ListN.{length}
-use Rattle.template_text.specs.Comes.{comes_at}
-use Rattle.template_text.specs.declared.PieceStep.TheVariants.{Read}
 use Rattle.template_text.proofs.Coming.{no_more}
-use Rattle.template_entries.specs.Table.{entry_width}
 use Rattle.template_known.proofs.Knowing.{seek_start, seek_on, seek_end, know_start, know_end, know_bad, know_passing, know_other, know_found, know_missing}
 use Rattle.template_known.proofs.all_known.Goals as goal
 

@@ -1,6 +1,5 @@
 -- `read_number` meets its contract. The loop's invariant, `Reading`: the digits passed have the value, and the rest are those
 -- from here on. The measure is what is left of the text. Assumes nothing.
-use Prim.Native.Nat.{◌-◌}
 use Rattle.template_numbers.proofs.Digits.{begin, no_digits, ends_below, ends_above, ends_too_large, more, ends_with}
 use native.Mathlib.Omega.{arith}
 use Rattle.template_numbers.proofs.read_number.Goals as goal

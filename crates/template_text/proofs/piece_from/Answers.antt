@@ -1,8 +1,6 @@
 -- `piece_from` meets its contract. Assumes nothing.
-use mathlib.Core.Path.{◌≡◌, ap, sym, ◌∙◌}
+use mathlib.Core.Path.{ap, sym, ◌∙◌}
 use native.Mathlib.Omega.{arith}
-use Rattle.template_parts.specs.Parts.{part_step_at}
-use Rattle.template_parts.specs.declared.PartAnswer.TheVariants.{Part}
 use Rattle.template_parts.specs.declared.PartStep.{PartStep}
 use Rattle.template_parts.proofs.Parts.{part_found}
 use Rattle.template_text.proofs.Coming.{at_end, at_bad, at_piece}

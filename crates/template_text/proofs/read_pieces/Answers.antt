@@ -1,12 +1,7 @@
 -- `read_pieces` meets its contract. The loop's invariant, `Gathering`: the pieces passed have been written, and the others are
 -- those from here on. The measure is what is left of the text. Assumes nothing.
-use mathlib.Core.Path.{◌≡◌, sym, ◌∙◌}
-use Prim.Native.Nat.{◌+◌, ◌-◌, ◌≤◌, ◌<◌}
+use mathlib.Core.Path.{sym, ◌∙◌}
 use native.Mathlib.Omega.{arith}
-use lib.ListN.{length}
-use Rattle.template_text.specs.Comes.{comes_at}
-use Rattle.template_text.specs.Template.{most_bytes, most_parts}
-use Rattle.template_text.specs.declared.PieceStep.TheVariants.{Read}
 use Rattle.template_text.proofs.Coming.{no_more}
 use Rattle.template_text.proofs.Gathering.{kept, gather_start, gather_end, gather_bad, gather_passing, gather_few, gather_small, gather_room, gather_on}
 use Rattle.template_text.proofs.read_pieces.Goals as goal
