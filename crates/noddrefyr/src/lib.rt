@@ -2,18 +2,18 @@
 // done, and states that function's promises again.
 #![tactic(auto)]
 
-mod chars;
-mod cut;
-mod join;
-mod lengths;
-mod make;
-mod offsets;
-mod pad;
-mod process;
-mod profile;
-mod report;
-mod sequences;
-mod templates;
-mod texts;
-mod validate;
-mod words;
+mod chars_calls;
+mod cut_calls;
+mod join_calls;
+mod lengths_calls;
+mod make_calls;
+mod offsets_calls;
+mod pad_calls;
+mod process_calls;
+mod profile_calls;
+mod report_calls;
+mod sequences_calls;
+mod templates_calls;
+mod texts_calls;
+mod validate_calls;
+mod words_calls;
