@@ -31,7 +31,7 @@ pub record Left (g : Bool) (xs rs ys ss : List ℕ) (c : Call g xs rs ys ss) : T
   pub wrote : Wrote g xs rs ys ss f
   pub nodes_are : result_nodes c ≡ flat_nodes f
   pub rows_are : result_rows c ≡ flat_rows f
-  pub nodes_long : length (flat_nodes f) ≡ c.node_count_lem * node_width
+  pub nodes_long : length (flat_nodes f) ≡ c.node_count * node_width
   pub rows_long : length (flat_rows f) ≡ c.row_count * row_width
 
 module _ {g : Bool} {xs rs ys ss : List ℕ} (c : Call g xs rs ys ss) where
@@ -39,25 +39,25 @@ module _ {g : Bool} {xs rs ys ss : List ℕ} (c : Call g xs rs ys ss) where
   unfolding left
   call_left = go (join_outcome g (read xs rs) (read ys ss) c.nodes c.rows) refl c.called.promised
     where
-      go : (o : Outcome) → join_outcome g (read xs rs) (read ys ss) c.nodes c.rows ≡ o → Writes o (Done c.node_count_lem c.row_count) c.nodes c.rows c.nodes_after c.rows_after → Left g xs rs ys ss c
+      go : (o : Outcome) → join_outcome g (read xs rs) (read ys ss) c.nodes c.rows ≡ o → Writes o (Done c.node_count c.row_count) c.nodes c.rows c.nodes_after c.rows_after → Left g xs rs ys ss c
       go (refused k) e w = absurd (let z : ◌≡◌ {A = ℕ} 0 1 = cc w.answers in omega arith)
       go (done f) e w =
-          let n : c.node_count_lem ≡ nodes_in f = cc w.answers in
+          let n : c.node_count ≡ nodes_in f = cc w.answers in
           let m : c.row_count ≡ rows_in f = cc w.answers in
           let fine = (stored (flat_nodes f) (flat_rows f) f (join_reads g xs rs ys ss c.nodes c.rows e)).well.fine in
-          let nodes_long : length (flat_nodes f) ≡ c.node_count_lem * node_width = length_nodes f fine ∙ ap (◌* node_width) (sym n) in
+          let nodes_long : length (flat_nodes f) ≡ c.node_count * node_width = length_nodes f fine ∙ ap (◌* node_width) (sym n) in
           let rows_long : length (flat_rows f) ≡ c.row_count * row_width = length_rows f ∙ ap (◌* row_width) (sym m) in
           record {
             f = f;
             wrote = record { out_nodes = c.nodes; out_rows = c.rows; is = e };
-            nodes_are = ap (take (c.node_count_lem * node_width)) w.nodes_left ∙ take_at (flat_nodes f) _ _ nodes_long;
+            nodes_are = ap (take (c.node_count * node_width)) w.nodes_left ∙ take_at (flat_nodes f) _ _ nodes_long;
             rows_are = ap (take (c.row_count * row_width)) w.rows_left ∙ take_at (flat_rows f) _ _ rows_long;
             nodes_long = nodes_long;
             rows_long = rows_long;
           }
 
   -- how long it is
-  counted : (length (result_nodes c) ≡ c.node_count_lem * node_width) × (length (result_rows c) ≡ c.row_count * row_width)
+  counted : (length (result_nodes c) ≡ c.node_count * node_width) × (length (result_rows c) ≡ c.row_count * row_width)
   counted = let l = call_left in (ap length l.nodes_are ∙ l.nodes_long, ap length l.rows_are ∙ l.rows_long)
 
 windowless : {nodes rows : List ℕ} {E : Encoding} → One nodes rows E → windows E ≡ [] → Windowless nodes rows

@@ -24,13 +24,13 @@ pub record Call (growing : Bool) (first_nodes first_rows second_nodes second_row
   pub rows : List ℕ
   pub nodes_after : List ℕ
   pub rows_after : List ℕ
-  pub node_count_lem : ℕ
+  pub node_count : ℕ
   pub row_count : ℕ
-  pub called : Called growing first_nodes first_rows second_nodes second_rows nodes rows nodes_after rows_after (Done node_count_lem row_count)
+  pub called : Called growing first_nodes first_rows second_nodes second_rows nodes rows nodes_after rows_after (Done node_count row_count)
 
 -- its result: as many numbers from the front of the output as the answer tells
 abbrev pub result_nodes : {growing : Bool} {first_nodes first_rows second_nodes second_rows : List ℕ} → Call growing first_nodes first_rows second_nodes second_rows → List ℕ
-result_nodes c = take (c.node_count_lem * node_width) c.nodes_after
+result_nodes c = take (c.node_count * node_width) c.nodes_after
 
 abbrev pub result_rows : {growing : Bool} {first_nodes first_rows second_nodes second_rows : List ℕ} → Call growing first_nodes first_rows second_nodes second_rows → List ℕ
 result_rows c = take (c.row_count * row_width) c.rows_after
@@ -60,7 +60,7 @@ pub record AlikeSaveForOrder (nodes rows nodes' rows' : List ℕ) : Type 0 where
 pub record Same {growing : Bool} {xs rs ys ss xs' rs' ys' ss' : List ℕ} (c : Call growing xs rs ys ss) (d : Call growing xs' rs' ys' ss') : Type 0 where
   pub same_nodes : result_nodes c ≡ result_nodes d
   pub same_rows : result_rows c ≡ result_rows d
-  pub same_node_count : c.node_count_lem ≡ d.node_count_lem
+  pub same_node_count : c.node_count ≡ d.node_count
   pub same_row_count : c.row_count ≡ d.row_count
 
 -- What both ways leave.

@@ -26,7 +26,7 @@ operands {g} {xs} {rs} {ys} {ss} c =
 
 module _ {g : Bool} {A A' B B' C C' : List ℕ} where
   -- four calls, none of them refused
-  four_same : (four : FourCalls g A A' B B' C C') → let l = four.ab_with_c in let r = four.a_with_bc in SameBothWays A A' B B' C C' l.nodes_after l.rows_after r.nodes_after r.rows_after l.node_count_lem l.row_count r.node_count_lem r.row_count
+  four_same : (four : FourCalls g A A' B B' C C') → let l = four.ab_with_c in let r = four.a_with_bc in SameBothWays A A' B B' C C' l.nodes_after l.rows_after r.nodes_after r.rows_after l.node_count l.row_count r.node_count r.row_count
   four_same four =
       let (EA, EB, a, b) = operands four.a_with_b in
       let (_, EC, _, c) = operands four.b_with_c in

@@ -15,7 +15,7 @@ use Rattle.join_next.specs.Promises.{StoreHolds}
 -- a call that answered so
 abbrev pub call : {g : Bool} {xs rs ys ss nodes rows nodes' rows' : List ℕ} {w : Written} → Called g xs rs ys ss nodes rows nodes' rows' w → (n m : ℕ) → w ≡ Done n m → Call g xs rs ys ss
 call {g} {xs} {rs} {ys} {ss} {nodes} {rows} {nodes'} {rows'} c n m e =
-    record { nodes = nodes; rows = rows; nodes_after = nodes'; rows_after = rows'; node_count_lem = n; row_count = m; called = subst (λ (w : Written). Called g xs rs ys ss nodes rows nodes' rows' w) e c }
+    record { nodes = nodes; rows = rows; nodes_after = nodes'; rows_after = rows'; node_count = n; row_count = m; called = subst (λ (w : Written). Called g xs rs ys ss nodes rows nodes' rows' w) e c }
 
 taken : (k : ℕ) (l : List ℕ) → length (take k l) ≡ k → k ≤ length l
 taken k l e = let h = length-take k l in omega (arith, h, e)

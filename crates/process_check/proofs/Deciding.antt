@@ -90,7 +90,7 @@ module _ (E : Encoding) (second : Option Encoding) (table : List Special) (add :
       go (unread j) t e = absurd (let z : ◌≡◌ {A = ℕ} 0 1 = cc in omega arith)
       go (reads pieces) t e =
           let (l, i, _) = passes (not (has_second second) && some_ok is_b pieces) add (all_ok (known table) pieces) (refused BWithoutSecond) e in
-          (pieces, record { reads = t; has_second_lem = lacks_told second pieces ∙ l; all_known = i }, λ a b c d. rw (lacks_told second pieces) (passes (not (has_second second) && some_ok is_b pieces) add (all_ok (known table) pieces) (folded pieces a b c d) e).2)
+          (pieces, record { reads = t; has_second = lacks_told second pieces ∙ l; all_known = i }, λ a b c d. rw (lacks_told second pieces) (passes (not (has_second second) && some_ok is_b pieces) add (all_ok (known table) pieces) (folded pieces a b c d) e).2)
 
   -- and has steps
   pub has_steps : (text entries members added : List ℕ) {numbers : List ℕ} {answer : PlanAnswer} {k : Refusal} {A : Type 0} → usability table (has_second second) add (read_template text) ≡ Valid → read_table entries members added ≡ sound table → Plans text add entries added answer numbers → answer ≡ Unplanned k → A
@@ -141,6 +141,6 @@ module _ (t : Table) (template : Which → TemplateReading) (add : Bool) where
               E = E;
               second = second;
               steps = p.planned;
-              steps_here = record { inputs = inputs; numbered = p.numbers; counted = e; few = omega (arith, p.few); fine = p.fine second w.has_second_lem };
-              folded = λ a b c d. comes_to a b c d ∙ o a b c d ∙ ap (λ (l : List Encoding). folded_into l a b c d) (sym (p.made E second w.has_second_lem));
+              steps_here = record { inputs = inputs; numbered = p.numbers; counted = e; few = omega (arith, p.few); fine = p.fine second w.has_second };
+              folded = λ a b c d. comes_to a b c d ∙ o a b c d ∙ ap (λ (l : List Encoding). folded_into l a b c d) (sym (p.made E second w.has_second));
             }

@@ -43,5 +43,5 @@ DecidesProcess outcome nodes rows entries members numbers (Take s count) = Taken
 -- The template can be read, names the second encoding only if there is one, and its ids are known if they are needed.
 pub record Usable (text : List ℕ) (add : Bool) (second : Option Encoding) (table : List Special) (pieces : List Piece) : Type 0 where
   pub reads : read_template text ≡ reads pieces
-  pub has_second_lem : lacks_second second pieces ≡ false
+  pub has_second : lacks_second second pieces ≡ false
   pub all_known : add ≡ true → all_ok (known table) pieces ≡ true

@@ -108,7 +108,7 @@ fn run(operation: u32, nodes: &[u32], rows: &[u32], rest: &[u32], answers: &[u32
     }
 }
 
-// `16 nodes rows max stride left refusal nodes rows out_nodes out_rows`
+// `16 nodes rows max stride left refusal nodes rows out-nodes out-rows`
 fn truncate(nodes: &[u32], rows: &[u32], rest: &[u32], answers: &[u32]) -> Outcome {
     let mut out_nodes = [BEFORE; OUTPUT];
     let mut out_rows = [BEFORE; OUTPUT];
@@ -128,7 +128,7 @@ fn truncate(nodes: &[u32], rows: &[u32], rest: &[u32], answers: &[u32]) -> Outco
     replay_outputs::answered_whole(refusal, &counts, &out_nodes, &out_rows, answers)
 }
 
-// `20 nodes rows max-length stride strategy left refusal nodes rows out_nodes out_rows`: the lengths of a pair and the cut to them
+// `20 nodes rows max-length stride strategy left refusal nodes rows out-nodes out-rows`: the lengths of a pair and the cut to them
 fn in_turn(nodes: &[u32], rows: &[u32], rest: &[u32], answers: &[u32]) -> Outcome {
     let mut out_nodes = [BEFORE; OUTPUT];
     let mut out_rows = [BEFORE; OUTPUT];
@@ -169,7 +169,7 @@ fn pair_lengths(pair: &[u32], nothing: &[u32], answers: &[u32]) -> Outcome {
     replay_answers::answered_four(refusal, &kept, answers, 0)
 }
 
-// `33 nodes rows first-length has-second-length second-length stride left refusal nodes rows out_nodes out_rows`
+// `33 nodes rows first-length has-second-length second-length stride left refusal nodes rows out-nodes out-rows`
 fn cut_pair(nodes: &[u32], rows: &[u32], rest: &[u32], answers: &[u32]) -> Outcome {
     let mut out_nodes = [BEFORE; OUTPUT];
     let mut out_rows = [BEFORE; OUTPUT];

@@ -117,7 +117,7 @@ fn get_sequence_ids(nodes: &[u32], rows: &[u32], answers: &[u32]) -> Outcome {
     replay_outputs::answered_whole(refusal, &counts, &column, &nothing, answers)
 }
 
-// `12 tokens nothing type refusal nodes rows out_nodes out_rows`
+// `12 tokens nothing type refusal nodes rows out-nodes out-rows`
 fn from_tokens(tokens: &[u32], rest: &[u32], answers: &[u32]) -> Outcome {
     let mut out_nodes = [BEFORE; OUTPUT];
     let mut out_rows = [BEFORE; OUTPUT];
@@ -134,7 +134,7 @@ fn from_tokens(tokens: &[u32], rest: &[u32], answers: &[u32]) -> Outcome {
     replay_outputs::answered_whole(refusal, &counts, &out_nodes, &out_rows, answers)
 }
 
-// `13 nodes rows sequence refusal nodes rows out_nodes out_rows`
+// `13 nodes rows sequence refusal nodes rows out-nodes out-rows`
 fn set_sequence_id(nodes: &[u32], rows: &[u32], rest: &[u32], answers: &[u32]) -> Outcome {
     let mut out_nodes = [BEFORE; OUTPUT];
     let mut out_rows = [BEFORE; OUTPUT];

@@ -84,7 +84,7 @@ fn replay(operation: u32, nodes: &[u32], rows: &[u32], rest: &[u32]) -> Outcome 
     merge(nodes, rows, rest, &rest[ANSWERS..])
 }
 
-// `19 nodes rows growing left refusal nodes rows out_nodes out_rows`: `left` is what each number of the working store is after
+// `19 nodes rows growing left refusal nodes rows out-nodes out-rows`: `left` is what each number of the working store is after
 // the call
 fn merge(nodes: &[u32], rows: &[u32], rest: &[u32], answers: &[u32]) -> Outcome {
     let mut out_nodes = [BEFORE; OUTPUT];

@@ -86,7 +86,7 @@ fn after_second(rest: &[u32]) -> usize
     if end < rest.len() { end + 1 } else { end }
 }
 
-// `18 nodes rows second-nodes second-rows growing refusal nodes rows out_nodes out_rows`
+// `18 nodes rows second-nodes second-rows growing refusal nodes rows out-nodes out-rows`
 fn merge_with(nodes: &[u32], rows: &[u32], rest: &[u32], answers: &[u32]) -> Outcome {
     let second = replay_cases::list_at(rest, 0);
     let second_start = second.start;

@@ -94,7 +94,7 @@ fn run(operation: u32, nodes: &[u32], rows: &[u32], text: &[u8], answers: &[u32]
     }
 }
 
-// `27 nodes rows text refusal nodes rows out_nodes out_rows`
+// `27 nodes rows text refusal nodes rows out-nodes out-rows`
 fn bytes_to_chars(nodes: &[u32], rows: &[u32], text: &[u8], answers: &[u32]) -> Outcome {
     let mut out_nodes = [BEFORE; OUTPUT];
     let mut out_rows = [BEFORE; OUTPUT];
@@ -112,7 +112,7 @@ fn bytes_to_chars(nodes: &[u32], rows: &[u32], text: &[u8], answers: &[u32]) -> 
     replay_outputs::answered_whole(refusal, &counts, &out_nodes, &out_rows, answers)
 }
 
-// `28 nodes rows text refusal nodes rows out_nodes out_rows`
+// `28 nodes rows text refusal nodes rows out-nodes out-rows`
 fn chars_to_bytes(nodes: &[u32], rows: &[u32], text: &[u8], answers: &[u32]) -> Outcome {
     let mut out_nodes = [BEFORE; OUTPUT];
     let mut out_rows = [BEFORE; OUTPUT];

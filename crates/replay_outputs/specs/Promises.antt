@@ -11,7 +11,7 @@ pub record LengthAt (case : List ℕ) (at : ℕ) (lent : List ℕ) (r : ℕ) : T
 -- the answers begin with the refusal and the counts
 pub record ToldFirst (refusal : ℕ) (counts answers : List ℕ) : Type 0 where
   pub refused : get_or answers 0 0 ≡ refusal
-  pub node_count_lem : get_or answers 1 0 ≡ get_or counts 0 0
+  pub node_count : get_or answers 1 0 ≡ get_or counts 0 0
   pub row_count : get_or answers 2 0 ≡ get_or counts 1 0
 
 -- the numbers from one place up to another

@@ -108,7 +108,7 @@ fn run(operation: u32, nodes: &[u32], rows: &[u32], rest: &[u32], answers: &[u32
     }
 }
 
-// `21 nodes rows length id type text_start text_length left refusal nodes rows out_nodes out_rows`, with a pool of 8 bytes
+// `21 nodes rows length id type text-start text-length left refusal nodes rows out-nodes out-rows`, with a pool of 8 bytes
 fn pad(nodes: &[u32], rows: &[u32], rest: &[u32], answers: &[u32]) -> Outcome {
     let added = [0u8; POOL];
     let mut out_nodes = [BEFORE; OUTPUT];
@@ -133,7 +133,7 @@ fn pad(nodes: &[u32], rows: &[u32], rest: &[u32], answers: &[u32]) -> Outcome {
     replay_outputs::answered_whole(refusal, &counts, &out_nodes, &out_rows, answers)
 }
 
-// `22 nodes rows fixed length multiple id type text_start text_length left refusal nodes rows out_nodes out_rows`, with a pool
+// `22 nodes rows fixed length multiple id type text-start text-length left refusal nodes rows out-nodes out-rows`, with a pool
 // of 8 bytes
 fn pad_encodings(nodes: &[u32], rows: &[u32], rest: &[u32], answers: &[u32]) -> Outcome {
     let added = [0u8; POOL];

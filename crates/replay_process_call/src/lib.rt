@@ -22,7 +22,7 @@ const LENT: u32 = 7;
 
 const NOT_STORED: u32 = 4294967295;
 
-// `26 nodes rows add single-set pair_set left part place entries members single pair added refusal nodes rows out_nodes out_rows`:
+// `26 nodes rows add single-set pair-set left part place entries members single pair added refusal nodes rows out-nodes out-rows`:
 // `left` is what each number of the working store is after the call, `part` and `place` what those of the fault are
 pub fn process(nodes: &[u32], rows: &[u32], rest: &[u32], answers: &[u32]) -> Outcome
     ensures { result ≡ Outcome.Same → Ends answers.now }

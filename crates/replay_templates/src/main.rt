@@ -98,7 +98,7 @@ fn replay(operation: u32, first: &[u32], second: &[u32], rest: &[u32]) -> Outcom
     }
 }
 
-// `24 entries members single-set pair_set single pair added refusal template part place`
+// `24 entries members single-set pair-set single pair added refusal template part place`
 fn validate(entries: &[u32], members: &[u32], rest: &[u32]) -> Outcome {
     let mut single = [0u8; TEXT];
     let mut pair = [0u8; TEXT];

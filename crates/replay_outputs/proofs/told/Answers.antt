@@ -13,4 +13,4 @@ returns-then-wide-counts c = not_true
 
 pub returns : goal.returns
 returns c e =
-    record { refused = omega arith; node_count_lem = omega arith; row_count = sym c.number_at-3.ensures ∙ (sym c.wide-2.ensures ∙ eqb-true _ _ e) }
+    record { refused = omega arith; node_count = omega arith; row_count = sym c.number_at-3.ensures ∙ (sym c.wide-2.ensures ∙ eqb-true _ _ e) }
