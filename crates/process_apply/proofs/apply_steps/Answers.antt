@@ -1,18 +1,15 @@
 -- `apply_steps` sizes, writes, and zeroes the working store. Assumes nothing.
 use mathlib.Core.Path.{◌≡◌, refl, sym, ◌∙◌}
-use mathlib.Core.Bool.{true, false}
+use mathlib.Core.Bool.{true}
 use mathlib.Core.Option.{Option}
-use mathlib.Core.List.{List, map}
+use mathlib.Core.List.{List}
 use native.Mathlib.Omega.{arith}
 use lib.ListN.{length}
 use Rattle.record.specs.Tree.{Encoding}
 use Rattle.record.specs.declared.Refusal.TheVariants.{NoRoom}
-use Rattle.join_trees.specs.Join.{fold}
 use Rattle.record_room.specs.Room.{has_room}
-use Rattle.join_size.specs.Promises.{Sizes}
 use Rattle.record.proofs.Working.{zeroed_kept, with_refused}
 use Rattle.process_steps.specs.declared.Step.{Step}
-use Rattle.process_steps.specs.Steps.{step_encoding}
 use Rattle.process_steps.specs.Promises.{StepsHere}
 use Rattle.process_write.specs.Promises.{Ready}
 use Rattle.process_apply.proofs.Deciding.{steps_of, outcome_no_room, outcome_no_working, steps_ready, steps_done}

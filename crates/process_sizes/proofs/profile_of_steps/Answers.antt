@@ -1,7 +1,6 @@
 -- `profile_of_steps` measures what the steps give: each turn folds one more, and the first that is too large decides.
 -- Assumes nothing.
 use mathlib.Core.Option.{some}
-use Prim.Native.Nat.{◌-◌}
 use native.Mathlib.Omega.{arith}
 use borrow.Author.Tests.{not-true, not-false}
 use Rattle.join_levels.proofs.Limits.{refuses, answers}

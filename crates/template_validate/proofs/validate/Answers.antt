@@ -2,7 +2,6 @@
 use mathlib.Core.Path.{◌≡◌, ap, ap₂, sym, ◌∙◌}
 use Prim.Native.Nat.{ℕ}
 use mathlib.Core.List.{List}
-use borrow.Author.Tests.{not-false}
 use Rattle.template_text.specs.Template.{read_template}
 use Rattle.template_entries.specs.Table.{read_table}
 use Rattle.template_table.specs.Check.{table_answer}
