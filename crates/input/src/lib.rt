@@ -81,7 +81,8 @@ fn not_read(rt: &impl Eprint, error: &Error) -> Unread
 {
     let again = input_output::again_after(error);
     if !again {
-        input_output::tell(rt, "standard input", error);
+        // nothing can be done if that fails too
+        let _ = eprintln!(rt; "standard input: {error}");
     }
     Unread {
         at: 0,

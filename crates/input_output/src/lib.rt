@@ -1,5 +1,4 @@
-// What reading and writing share, for programs: whether a call that moved nothing is made again, and the line on standard error
-// about one that failed.
+// What reading and writing share, for programs: whether a call that moved nothing is made again.
 #![tactic(auto)]
 
 ghost use Rattle.std.specs.Prelude.{◌≡◌};
@@ -36,9 +35,4 @@ pub fn again_after(error: &Error) -> bool
         Some(code) => again(code),
         None => false,
     }
-}
-
-// Says on standard error that a stream failed, and why. Nothing can be done if that fails too.
-pub fn tell(rt: &impl Eprint, stream: &str, error: &Error) {
-    let _ = eprintln!(rt; "{stream}: {error}");
 }

@@ -20,7 +20,9 @@ pub fn print(rt: &(impl Print + Eprint), bytes: &[u8]) -> Written
 {
     let ended = write_turns(rt, bytes);
     if !ended.written.all {
-        input_output::tell(rt, "standard output", &ended.error);
+        // nothing can be done if that fails too
+        let error = &ended.error;
+        let _ = eprintln!(rt; "standard output: {error}");
     }
     ended.written
 }
