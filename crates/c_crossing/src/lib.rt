@@ -14,13 +14,13 @@ use record::{FaultAnswer, Refusal, Written};
 
 // The number of an answer's refusal, and its nodes and rows through `written`. It is a function of its own so that the `match`
 // stands where no output is lent.
-pub fn told(answer: Written, written: &mut [usize; 2]) -> u32
+pub fn told(answer: Result<Written, Refusal>, written: &mut [usize; 2]) -> u32
     ensures refusal { result ≡ refusal_of answer }
     ensures counts { written.new ≡ counts_or written.old answer }
 {
     match answer {
-        Written::Refused(k) => k.number(),
-        Written::Done { nodes, rows } => {
+        Err(k) => k.number(),
+        Ok(Written { nodes, rows }) => {
             *written = [nodes, rows];
             0
         }
@@ -40,12 +40,16 @@ pub fn fault_told(why: Refusal, fault: &mut [usize; 2]) -> u32
 }
 
 // Both of an answer that may be refused for a part of a template.
-pub fn told_with_fault(answer: Written, written: &mut [usize; 2], fault: &mut [usize; 2]) -> u32
+pub fn told_with_fault(
+    answer: Result<Written, Refusal>,
+    written: &mut [usize; 2],
+    fault: &mut [usize; 2],
+) -> u32
     ensures refusal { result ≡ refusal_of answer }
     ensures counts { written.new ≡ counts_or written.old answer }
     ensures part { fault.new ≡ fault_after fault.old answer }
 {
-    if let Written::Refused(why) = answer {
+    if let Err(why) = answer {
         return fault_told(why, fault);
     }
     told(answer, written)

@@ -38,7 +38,7 @@ pub fn chars_from(
     if far(from, place) {
         let k = place >> grain.shift;
         from = k * grain.block;
-        count = lists::wide(table[k]);
+        count = table[k] as usize;
     }
     count + chars_count::count_starts(text, from, place)
 }
@@ -58,7 +58,7 @@ pub fn place_from(
     let mut passed = last.count;
     if far(passed, count) {
         let k = count >> grain.shift;
-        from = lists::wide(table[k]);
+        from = table[k] as usize;
         passed = k * grain.block;
     }
     chars_back::nth_start(text, from, count - passed)

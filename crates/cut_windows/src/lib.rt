@@ -39,14 +39,8 @@ fn write_part(
 {
     let size = stretch.end - stretch.start;
     write_head(out_nodes, a, size, 0);
-    let from = j + lists::wide(stretch.start) * Encoding::ROW_WIDTH;
-    lists::copy(
-        rows,
-        from,
-        lists::wide(size) * Encoding::ROW_WIDTH,
-        out_rows,
-        b,
-    );
+    let from = j + stretch.start as usize * Encoding::ROW_WIDTH;
+    lists::copy(rows, from, size as usize * Encoding::ROW_WIDTH, out_rows, b);
 }
 
 // The windows of a cut one after another, each a stretch of the n rows at j.
@@ -74,7 +68,7 @@ fn write_windows(
         let window = cut_plan::window(n, max, stride, direction, i);
         write_part(rows, j, window, out_nodes, node, out_rows, row);
         node += Encoding::NODE_WIDTH;
-        row += lists::wide(window.end - window.start) * Encoding::ROW_WIDTH;
+        row += (window.end - window.start) as usize * Encoding::ROW_WIDTH;
         i += 1;
     }
 }

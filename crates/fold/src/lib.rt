@@ -19,7 +19,7 @@ pub fn merge(
     out_rows: &mut [u32],
     working_nodes: &mut [u32],
     working_rows: &mut [u32],
-) -> Written
+) -> Result<Written, Refusal>
     ensures { WritesWith
         (fold_outcome growing (read nodes.now rows.now)
         out_nodes.old out_rows.old
@@ -37,10 +37,10 @@ pub fn merge(
         working_rows.len(),
     );
     match decision {
-        Decision::Refused(why) => Written::Refused(why),
+        Decision::Refused(why) => Err(why),
         Decision::TooLarge => {
             fold_write::zero_all(out_nodes, out_rows, working_nodes, working_rows);
-            Written::Refused(Refusal::OffsetTooLarge)
+            Err(Refusal::OffsetTooLarge)
         }
         Decision::Fold {
             nodes: node_count,
@@ -55,10 +55,10 @@ pub fn merge(
                 working_nodes,
                 working_rows,
             );
-            Written::Done {
+            Ok(Written {
                 nodes: node_count,
                 rows: row_count,
-            }
+            })
         }
     }
 }

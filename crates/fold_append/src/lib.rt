@@ -36,8 +36,8 @@ pub fn append_node(
 {
     let k = p.node;
     let shift = out_nodes[0];
-    let count = lists::wide(shift);
-    let p_count = lists::wide(p_nodes[k]);
+    let count = shift as usize;
+    let p_count = p_nodes[k] as usize;
     let size = count * Encoding::ROW_WIDTH;
     let base = join_rows::base_of(out_rows, 0, count, growing);
     out_nodes[0] = shift + p_nodes[k];

@@ -24,7 +24,7 @@ pub fn run_from(nodes: &[u32], i: usize) -> Run
         if nodes[at + 1] != 0 {
             return Run { nodes: count, rows };
         }
-        rows += lists::wide(nodes[at]);
+        rows += nodes[at] as usize;
         count += 1;
         at += Encoding::NODE_WIDTH;
     }

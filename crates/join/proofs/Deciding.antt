@@ -1,5 +1,6 @@
 -- What becomes of two batches of one encoding each that are to be joined: each refusal, and the result.
 -- Assumes nothing.
+use Rattle.std.specs.Prelude.{Ok}
 use mathlib.Core.Path.{◌≡◌, ap₂, ◌∙◌}
 use mathlib.Core.Bool.{Bool, true, false}
 use mathlib.Core.List.{List, [], ◌∷◌}
@@ -11,7 +12,6 @@ use Rattle.record.specs.Read.{read}
 use Rattle.record.specs.Standing.{One, Here, Put, spot}
 use Rattle.record.specs.Outcome.{Room, refused, Writes}
 use Rattle.record.specs.declared.Refusal.TheVariants.{NoRoom, OffsetTooLarge}
-use Rattle.record.specs.declared.Written.TheVariants.{Done}
 use Rattle.record.proofs.One.{one_at}
 use Rattle.record.proofs.Outcome.{writes_done, room_lengths}
 use Rattle.join_trees.specs.Join.{join}
@@ -58,10 +58,10 @@ module _ {xs rs ys ss : List ℕ} {S P : Encoding} (s : One xs rs S) (p : One ys
           }
 
       pub join_writes : {out₁ out₁' : List ℕ} → Put (join g S (seen Plain P) ∷ []) out 0 out' 0 out₁ out₁'
-          → Writes (join_outcome g (read xs rs) (read ys ss) out out') (Done size.nodes size.rows) out out' out₁ out₁'
+          → Writes (join_outcome g (read xs rs) (read ys ss) out out') (Ok (record { nodes = size.nodes; rows = size.rows })) out out' out₁ out₁'
       join_writes put =
           let J = forest (join g S P ∷ []) in
           let t = roomy_takes sized out out' e in
           let q = rw (seen_plain P) at put in
           let l = room_lengths (join_fine g S P s.stores.well.fine p.stores.well.fine) room in
-          writes_done J (join_of g out out' s p ∙ join_done g out out' S P room f) l.0 l.1 (ap₂ Done t.nodes t.rows) q.nodes_put q.rows_put
+          writes_done J (join_of g out out' s p ∙ join_done g out out' S P room f) l.0 l.1 (ap₂ Ok (record { nodes = t.nodes; rows = t.rows })) q.nodes_put q.rows_put

@@ -1,6 +1,7 @@
 -- Demand 3: what four calls of `merge_with` leave in the buffers lent to them does not depend on the grouping, save for the
 -- order of windows.
 -- Assumes nothing.
+use Rattle.std.specs.Prelude.{Ok}
 use mathlib.Core.Path.{◌≡◌, refl, sym, ap, ap₂, ◌∙◌}
 use mathlib.Core.Bool.{Bool}
 use mathlib.Core.Logic.{◌⊎◌, inl, inr}
@@ -15,7 +16,6 @@ use Rattle.record.specs.WellFormed.{nodes_in, rows_in}
 use Rattle.record.specs.Read.{read}
 use Rattle.record.specs.Standing.{One}
 use Rattle.record.specs.Outcome.{Outcome, refused, done, left, Writes}
-use Rattle.record.specs.declared.Written.TheVariants.{Done}
 use Rattle.record.proofs.Flat.{length_nodes, length_rows}
 use Rattle.record.proofs.Read.{found, stored}
 use Rattle.join_trees.specs.Outcomes.{join_outcome}
@@ -39,7 +39,7 @@ module _ {g : Bool} {xs rs ys ss : List ℕ} (c : Call g xs rs ys ss) where
   unfolding left
   call_left = go (join_outcome g (read xs rs) (read ys ss) c.nodes c.rows) refl c.called.promised
     where
-      go : (o : Outcome) → join_outcome g (read xs rs) (read ys ss) c.nodes c.rows ≡ o → Writes o (Done c.node_count c.row_count) c.nodes c.rows c.nodes_after c.rows_after → Left g xs rs ys ss c
+      go : (o : Outcome) → join_outcome g (read xs rs) (read ys ss) c.nodes c.rows ≡ o → Writes o (Ok (record { nodes = c.node_count; rows = c.row_count })) c.nodes c.rows c.nodes_after c.rows_after → Left g xs rs ys ss c
       go (refused k) e w = absurd (let z : ◌≡◌ {A = ℕ} 0 1 = cc w.answers in omega arith)
       go (done f) e w =
           let n : c.node_count ≡ nodes_in f = cc w.answers in

@@ -1,13 +1,13 @@
 -- Demand 3 of the request, said of four calls of `merge_with` and of the numbers in the buffers lent to them.
 -- It is proved in proofs/Demand; `join_grouping` makes the four calls. Assumes nothing: these are definitions.
-use Rattle.std.specs.Prelude.{◌≡◌, Bool, ◌⊎◌, List, [], ◌∷◌, ℕ, ◌*◌, take}
+use Rattle.record.specs.declared.Refusal.{Refusal}
+use Rattle.std.specs.Prelude.{◌≡◌, Bool, ◌⊎◌, List, [], ◌∷◌, ℕ, ◌*◌, take, Result, Ok}
 use Rattle.record.specs.Tree.{Encoding, forest, windows}
 use Rattle.record.specs.Flat.{row_width, node_width}
 use Rattle.record.specs.Read.{holds, read}
 use Rattle.record.specs.Standing.{One}
 use Rattle.record.specs.Outcome.{Writes}
 use Rattle.record.specs.declared.Written.{Written}
-use Rattle.record.specs.declared.Written.TheVariants.{Done}
 use Rattle.join_trees.specs.Alike.{Alike}
 use Rattle.join_trees.specs.Outcomes.{join_outcome}
 
@@ -15,7 +15,7 @@ use Rattle.join_trees.specs.Outcomes.{join_outcome}
 
 -- What `merge_with` promises: called with the nodes and rows of two operands and with an output that held `nodes` and `rows`, it
 -- gave this answer, and the output holds nodes' and rows'.
-pub record Called (growing : Bool) (first_nodes first_rows second_nodes second_rows nodes rows nodes' rows' : List ℕ) (answer : Written) : Type 0 where
+pub record Called (growing : Bool) (first_nodes first_rows second_nodes second_rows nodes rows nodes' rows' : List ℕ) (answer : Result Written Refusal) : Type 0 where
   pub promised : Writes (join_outcome growing (read first_nodes first_rows) (read second_nodes second_rows) nodes rows) answer nodes rows nodes' rows'
 
 -- "and none be refused": a call that answered with the nodes and rows of its result, whatever the output held
@@ -26,7 +26,7 @@ pub record Call (growing : Bool) (first_nodes first_rows second_nodes second_row
   pub rows_after : List ℕ
   pub node_count : ℕ
   pub row_count : ℕ
-  pub called : Called growing first_nodes first_rows second_nodes second_rows nodes rows nodes_after rows_after (Done node_count row_count)
+  pub called : Called growing first_nodes first_rows second_nodes second_rows nodes rows nodes_after rows_after (Ok (record { nodes = node_count; rows = row_count }))
 
 -- its result: as many numbers from the front of the output as the answer tells
 abbrev pub result_nodes : {growing : Bool} {first_nodes first_rows second_nodes second_rows : List ℕ} → Call growing first_nodes first_rows second_nodes second_rows → List ℕ

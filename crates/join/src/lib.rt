@@ -16,24 +16,24 @@ pub fn merge_with(
     growing: bool,
     out_nodes: &mut [u32],
     out_rows: &mut [u32],
-) -> Written
+) -> Result<Written, Refusal>
     ensures { Called growing first_nodes.now first_rows.now second_nodes.now
         second_rows.now out_nodes.old out_rows.old out_nodes.new
         out_rows.new result }
 {
     if !record_check::is_one(first_nodes, first_rows) {
-        return Written::Refused(Refusal::MalformedRecord);
+        return Err(Refusal::MalformedRecord);
     }
     if !record_check::is_one(second_nodes, second_rows) {
-        return Written::Refused(Refusal::MalformedRecord);
+        return Err(Refusal::MalformedRecord);
     }
     let size = join_size::join_size(first_nodes, second_nodes);
     if !record_room::has_room(size, out_nodes.len(), out_rows.len()) {
-        return Written::Refused(Refusal::NoRoom);
+        return Err(Refusal::NoRoom);
     }
     if !join_offsets::join_fits(first_nodes, first_rows, second_nodes, second_rows, growing) {
         join_size::zero_both(out_nodes, out_rows);
-        return Written::Refused(Refusal::OffsetTooLarge);
+        return Err(Refusal::OffsetTooLarge);
     }
     let top = Spot { node: 0, row: 0 };
     join_write::join_nodes(
@@ -49,8 +49,8 @@ pub fn merge_with(
         out_rows,
         top,
     );
-    Written::Done {
+    Ok(Written {
         nodes: size.nodes,
         rows: size.rows,
-    }
+    })
 }

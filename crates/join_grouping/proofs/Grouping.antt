@@ -1,5 +1,7 @@
 -- Demand 3 of what both ways leave, from the four calls that they make.
 -- Assumes nothing.
+use Rattle.record.specs.declared.Refusal.{Refusal}
+use Rattle.std.specs.Prelude.{Result, Err, Ok}
 use mathlib.Core.Path.{◌≡◌, refl}
 use mathlib.Core.Bool.{Bool}
 use mathlib.Core.List.{List, [], ◌∷◌}
@@ -8,7 +10,6 @@ use native.Mathlib.Omega.{arith}
 use Rattle.record.specs.Tree.{Encoding, forest}
 use Rattle.record.specs.Standing.{One}
 use Rattle.record.specs.declared.Written.{Written}
-use Rattle.record.specs.declared.Written.TheVariants.{Refused, Done}
 use Rattle.record.proofs.Read.{stored}
 use Rattle.join_trees.proofs.Outcomes.{join_told}
 use Rattle.join.specs.Demand.{Called, Call, FourCalls}
@@ -43,13 +44,13 @@ module _ {g : Bool} {A A' B B' C C' : List ℕ} where
       }
 
   pub both_same : {ab ab_rows left left_rows ab' ab_rows' left' left_rows' bc bc_rows right right_rows bc' bc_rows' right' right_rows' : List ℕ} {n m i j : ℕ}
-      → LeftWay g A A' B B' C C' ab ab_rows left left_rows ab' ab_rows' left' left_rows' (Done n m) → RightWay g A A' B B' C C' bc bc_rows right right_rows bc' bc_rows' right' right_rows' (Done i j)
+      → LeftWay g A A' B B' C C' ab ab_rows left left_rows ab' ab_rows' left' left_rows' (Ok (record { nodes = n; rows = m })) → RightWay g A A' B B' C C' bc bc_rows right right_rows bc' bc_rows' right' right_rows' (Ok (record { nodes = i; rows = j }))
       → SameBothWays A A' B B' C C' left' left_rows' right' right_rows' n m i j
   both_same {ab} {ab_rows} {left} {left_rows} {ab'} {ab_rows'} {left'} {left_rows'} {bc} {bc_rows} {right} {right_rows} {bc'} {bc_rows'} {right'} {right_rows'} {n} {m} {i} {j} l r = go l.first r.first l.a_with_b l.ab_with_c r.b_with_c r.a_with_bc
     where
-      go : (v w : Written) → Called g A A' B B' ab ab_rows ab' ab_rows' v → Next v ab' ab_rows' (λ k. Stopped k (Done n m) left left_rows left' left_rows') (λ xs rs. Called g xs rs C C' left left_rows left' left_rows' (Done n m))
-          → Called g B B' C C' bc bc_rows bc' bc_rows' w → Next w bc' bc_rows' (λ k. Stopped k (Done i j) right right_rows right' right_rows') (λ xs rs. Called g A A' xs rs right right_rows right' right_rows' (Done i j))
+      go : (v w : Result Written Refusal) → Called g A A' B B' ab ab_rows ab' ab_rows' v → Next v ab' ab_rows' (λ k. Stopped k (Ok (record { nodes = n; rows = m })) left left_rows left' left_rows') (λ xs rs. Called g xs rs C C' left left_rows left' left_rows' (Ok (record { nodes = n; rows = m })))
+          → Called g B B' C C' bc bc_rows bc' bc_rows' w → Next w bc' bc_rows' (λ k. Stopped k (Ok (record { nodes = i; rows = j })) right right_rows right' right_rows') (λ xs rs. Called g A A' xs rs right right_rows right' right_rows' (Ok (record { nodes = i; rows = j })))
           → SameBothWays A A' B B' C C' left' left_rows' right' right_rows' n m i j
-      go (Refused k) w c s d t = absurd (let z : ◌≡◌ {A = ℕ} 0 1 = cc s.answers in omega arith)
-      go (Done a b) (Refused k) c s d t = absurd (let z : ◌≡◌ {A = ℕ} 0 1 = cc t.answers in omega arith)
-      go (Done a b) (Done e f) c s d t = four_same (record { a_with_b = call c a b refl; ab_with_c = call s n m refl; b_with_c = call d e f refl; a_with_bc = call t i j refl })
+      go (Err k) w c s d t = absurd (let z : ◌≡◌ {A = ℕ} 0 1 = cc s.answers in omega arith)
+      go (Ok (record { nodes = a; rows = b })) (Err k) c s d t = absurd (let z : ◌≡◌ {A = ℕ} 0 1 = cc t.answers in omega arith)
+      go (Ok (record { nodes = a; rows = b })) (Ok (record { nodes = e; rows = f })) c s d t = four_same (record { a_with_b = call c a b refl; ab_with_c = call s n m refl; b_with_c = call d e f refl; a_with_bc = call t i j refl })

@@ -1,11 +1,11 @@
 -- Demand 3 of the request as the promise of a function that makes the four calls of `merge_with` itself.
 -- Assumes nothing: these are definitions.
-use Rattle.std.specs.Prelude.{◌≡◌, Bool, ◌⊎◌, List, [], ℕ, ◌*◌, take}
+use Rattle.record.specs.declared.Refusal.{Refusal}
+use Rattle.std.specs.Prelude.{◌≡◌, Bool, ◌⊎◌, List, [], ℕ, ◌*◌, take, Result, Ok}
 use Rattle.record.specs.Tree.{Encoding, windows}
 use Rattle.record.specs.Flat.{row_width, node_width}
 use Rattle.record.specs.Standing.{One}
 use Rattle.record.specs.declared.Written.{Written}
-use Rattle.record.specs.declared.Written.TheVariants.{Done}
 use Rattle.join.specs.Demand.{AlikeSaveForOrder}
 use Rattle.join_three.specs.Ways.{LeftWay, RightWay}
 
@@ -23,7 +23,7 @@ pub record SameBothWays (nodesA rowsA nodesB rowsB nodesC rowsC left left_rows r
   pub exact : (windows A ≡ []) ⊎ (windows B ≡ []) ⊎ (windows C ≡ []) → (n ≡ i) × (m ≡ j) × (take (n * node_width) left ≡ take (i * node_width) right) × (take (m * row_width) left_rows ≡ take (j * row_width) right_rows)
 
 -- The promise: both ways; and, "none be refused", that they come to the same.
-pub record BothWays (growing : Bool) (nodesA rowsA nodesB rowsB nodesC rowsC ab ab_rows left left_rows bc bc_rows right right_rows ab' ab_rows' left' left_rows' bc' bc_rows' right' right_rows' : List ℕ) (answer_left answer_right : Written) : Type 0 where
+pub record BothWays (growing : Bool) (nodesA rowsA nodesB rowsB nodesC rowsC ab ab_rows left left_rows bc bc_rows right right_rows ab' ab_rows' left' left_rows' bc' bc_rows' right' right_rows' : List ℕ) (answer_left answer_right : Result Written Refusal) : Type 0 where
   pub left_way : LeftWay growing nodesA rowsA nodesB rowsB nodesC rowsC ab ab_rows left left_rows ab' ab_rows' left' left_rows' answer_left
   pub right_way : RightWay growing nodesA rowsA nodesB rowsB nodesC rowsC bc bc_rows right right_rows bc' bc_rows' right' right_rows' answer_right
-  pub same : (n m i j : ℕ) → answer_left ≡ Done n m → answer_right ≡ Done i j → SameBothWays nodesA rowsA nodesB rowsB nodesC rowsC left' left_rows' right' right_rows' n m i j
+  pub same : (n m i j : ℕ) → answer_left ≡ Ok (record { nodes = n; rows = m }) → answer_right ≡ Ok (record { nodes = i; rows = j }) → SameBothWays nodesA rowsA nodesB rowsB nodesC rowsC left' left_rows' right' right_rows' n m i j

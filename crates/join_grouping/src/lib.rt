@@ -9,8 +9,8 @@ use record::Written;
 // What each way answers.
 #[derive(Clone, Copy)]
 pub struct Answers {
-    pub left: Written,
-    pub right: Written,
+    pub left: Result<Written, Refusal>,
+    pub right: Result<Written, Refusal>,
 }
 
 // Both ways: A with B and the result with C; B with C and A with the result. Each way has a store for the result between

@@ -39,8 +39,8 @@ pub fn profile_at(nodes: &[u32], start: usize) -> Profile
         pending[level] = left - 1;
         pending[depth] = nodes[i + 1];
         counted[level] += 1;
-        rows[level] += lists::wide(nodes[i]);
-        levels = lists::larger(levels, depth);
+        rows[level] += nodes[i] as usize;
+        levels = levels.max(depth);
         depth += 1;
         i += Encoding::NODE_WIDTH;
     }

@@ -7,7 +7,7 @@ use record::{Encoding, Written};
 
 // What the first call left with C. Answers with the refusal of the first call, if it was refused.
 pub fn then_left(
-    first: Written,
+    first: Result<Written, Refusal>,
     ab_nodes: &[u32],
     ab_rows: &[u32],
     c_nodes: &[u32],
@@ -15,15 +15,15 @@ pub fn then_left(
     growing: bool,
     out_nodes: &mut [u32],
     out_rows: &mut [u32],
-) -> Written
+) -> Result<Written, Refusal>
     requires { StoreHolds first ab_nodes.now ab_rows.now }
     ensures { ThenLeft growing first ab_nodes.now ab_rows.now c_nodes.now
         c_rows.now out_nodes.old out_rows.old out_nodes.new
         out_rows.new result }
 {
     match first {
-        Written::Refused(why) => Written::Refused(why),
-        Written::Done { nodes, rows } => {
+        Err(why) => Err(why),
+        Ok(Written { nodes, rows }) => {
             let node_end = nodes * Encoding::NODE_WIDTH;
             let row_end = rows * Encoding::ROW_WIDTH;
             join::merge_with(
@@ -41,7 +41,7 @@ pub fn then_left(
 
 // A with what the first call left. Answers with the refusal of the first call, if it was refused.
 pub fn then_right(
-    first: Written,
+    first: Result<Written, Refusal>,
     a_nodes: &[u32],
     a_rows: &[u32],
     bc_nodes: &[u32],
@@ -49,15 +49,15 @@ pub fn then_right(
     growing: bool,
     out_nodes: &mut [u32],
     out_rows: &mut [u32],
-) -> Written
+) -> Result<Written, Refusal>
     requires { StoreHolds first bc_nodes.now bc_rows.now }
     ensures { ThenRight growing first a_nodes.now a_rows.now bc_nodes.now
         bc_rows.now out_nodes.old out_rows.old out_nodes.new
         out_rows.new result }
 {
     match first {
-        Written::Refused(why) => Written::Refused(why),
-        Written::Done { nodes, rows } => {
+        Err(why) => Err(why),
+        Ok(Written { nodes, rows }) => {
             let node_end = nodes * Encoding::NODE_WIDTH;
             let row_end = rows * Encoding::ROW_WIDTH;
             join::merge_with(

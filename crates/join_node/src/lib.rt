@@ -30,8 +30,8 @@ pub fn write_node(
     let k = p.node;
     let node = at.node;
     let row = at.row;
-    let count = lists::wide(s_nodes[i]);
-    let p_count = lists::wide(p_nodes[k]);
+    let count = s_nodes[i] as usize;
+    let p_count = p_nodes[k] as usize;
     join_numbers::write_numbers(s_nodes, i, p_nodes, k, view, out_nodes, node);
     join_rows::write_own_rows(
         s_rows, s.row, count, p_rows, p.row, p_count, view, growing, out_rows, row,

@@ -24,10 +24,7 @@ pub fn write_numbers(
         out_nodes.old at out_nodes.new }
 {
     let count = s_nodes[i];
-    let windows = join_trees::window_count(
-        lists::wide(s_nodes[i + 1]),
-        lists::wide(p_nodes[k + 1]),
-    );
+    let windows = join_trees::window_count(s_nodes[i + 1] as usize, p_nodes[k + 1] as usize);
     out_nodes[at] = count + p_nodes[k];
     out_nodes[at + 1] = windows as u32;
     lists::copy(

@@ -41,11 +41,11 @@ pub fn join_fits(
     );
     let count = p_rows.len() / Encoding::ROW_WIDTH;
     let bound = join_reach::offset_bound(p_rows, 0, count);
-    if lists::wide(base) + lists::wide(bound) <= MOST_OFFSET {
+    if base as usize + (bound as usize) <= MOST_OFFSET {
         return true;
     }
     let offset = join_reach::largest_offset(p_rows, 0, count);
-    lists::wide(base) + lists::wide(offset) <= MOST_OFFSET
+    base as usize + (offset as usize) <= MOST_OFFSET
 }
 
 // Whether every offset of every step of the fold of a batch stays within 32 bits.
@@ -70,7 +70,7 @@ fn far_within(nodes: &[u32], rows: &[u32]) -> bool
     let count = nodes.len() / Encoding::NODE_WIDTH;
     let base = join_reach::largest_base(nodes, 0, count, rows, 0);
     let bound = join_reach::offset_bound(rows, 0, rows.len() / Encoding::ROW_WIDTH);
-    count * lists::wide(base) + lists::wide(bound) <= MOST_OFFSET
+    count * base as usize + (bound as usize) <= MOST_OFFSET
 }
 
 // The steps one by one. `base` is the largest last offset end of what is folded so far.
@@ -84,10 +84,10 @@ fn steps_fit(nodes: &[u32], rows: &[u32]) -> bool
     while i < nodes.len() {
         let size = record_extent::measure(nodes, i, 1);
         let offset = join_reach::largest_offset(rows, j, size.rows);
-        if base + lists::wide(offset) > MOST_OFFSET {
+        if base + offset as usize > MOST_OFFSET {
             return false;
         }
-        base += lists::wide(join_reach::largest_base(nodes, i, size.nodes, rows, j));
+        base += join_reach::largest_base(nodes, i, size.nodes, rows, j) as usize;
         i += size.nodes * Encoding::NODE_WIDTH;
         j += size.rows * Encoding::ROW_WIDTH;
     }

@@ -28,8 +28,8 @@ pub fn largest_base(nodes: &[u32], i: usize, count: usize, rows: &[u32], j: usiz
     let mut row = j;
     let mut largest: u32 = 0;
     while left > 0 {
-        let n = lists::wide(nodes[node]);
-        largest = lists::larger_number(largest, last_end(rows, row, n));
+        let n = nodes[node] as usize;
+        largest = largest.max(last_end(rows, row, n));
         row += n * Encoding::ROW_WIDTH;
         node += Encoding::NODE_WIDTH;
         left -= 1;
@@ -57,11 +57,8 @@ pub fn largest_offset(rows: &[u32], j: usize, count: usize) -> u32
     let mut row = j;
     let mut largest: u32 = 0;
     while left > 0 {
-        let own = lists::larger_number(
-            rows[row + Column::OFFSET_START],
-            rows[row + Column::OFFSET_END],
-        );
-        largest = lists::larger_number(largest, own);
+        let own = rows[row + Column::OFFSET_START].max(rows[row + Column::OFFSET_END]);
+        largest = largest.max(own);
         row += Encoding::ROW_WIDTH;
         left -= 1;
     }

@@ -36,7 +36,7 @@ pub fn join_size(first_nodes: &[u32], second_nodes: &[u32]) -> Size
 {
     if first_nodes[1] == 0 {
         if second_nodes[1] == 0 {
-            let rows = lists::wide(first_nodes[0]) + lists::wide(second_nodes[0]);
+            let rows = first_nodes[0] as usize + second_nodes[0] as usize;
             return Size {
                 fits: rows <= Encoding::MOST_ROWS,
                 nodes: 1,

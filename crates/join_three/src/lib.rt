@@ -19,7 +19,7 @@ pub fn join_left(
     ab_rows: &mut [u32],
     out_nodes: &mut [u32],
     out_rows: &mut [u32],
-) -> Written
+) -> Result<Written, Refusal>
     ensures { LeftWay growing a_nodes.now a_rows.now b_nodes.now
         b_rows.now c_nodes.now c_rows.now
         ab_nodes.old ab_rows.old out_nodes.old out_rows.old
@@ -44,7 +44,7 @@ pub fn join_right(
     bc_rows: &mut [u32],
     out_nodes: &mut [u32],
     out_rows: &mut [u32],
-) -> Written
+) -> Result<Written, Refusal>
     ensures { RightWay growing a_nodes.now a_rows.now b_nodes.now
         b_rows.now c_nodes.now c_rows.now
         bc_nodes.old bc_rows.old out_nodes.old out_rows.old

@@ -24,7 +24,7 @@ pub fn down(nodes: &[u32], s: Spot) -> Spot
     let at = s.node;
     Spot {
         node: at + Encoding::NODE_WIDTH,
-        row: s.row + lists::wide(nodes[at]) * Encoding::ROW_WIDTH,
+        row: s.row + nodes[at] as usize * Encoding::ROW_WIDTH,
     }
 }
 

@@ -45,7 +45,7 @@ pub fn text(nodes: &[u32], rows: &[u32], row: Row, tokens: &[u8], added: &[u8]) 
     let pool = rows[at + Column::POOL];
     let start = rows[at + Column::TEXT_START];
     let length = rows[at + Column::TEXT_LENGTH];
-    if lists::wide(start) + lists::wide(length) <= pool_length(pool, tokens, added) {
+    if start as usize + (length as usize) <= pool_length(pool, tokens, added) {
         TextAnswer::Found {
             pool,
             start,
@@ -77,8 +77,8 @@ pub fn text_part<'a>(
     else {
         return &tokens[..0];
     };
-    let from = lists::wide(start);
-    let to = from + lists::wide(length);
+    let from = start as usize;
+    let to = from + length as usize;
     if pool == 0 {
         &tokens[from..to]
     } else {
@@ -100,7 +100,7 @@ pub fn span(nodes: &[u32], rows: &[u32], node: u32) -> SpanAnswer
         return SpanAnswer::Nothing;
     }
     let first = rows_before(nodes, node);
-    let seen = lookup_spans::span_of(rows, first, lists::wide(nodes[at]));
+    let seen = lookup_spans::span_of(rows, first, nodes[at] as usize);
     if seen.found {
         SpanAnswer::Found {
             start: Place(seen.start),
@@ -120,7 +120,7 @@ fn rows_before(nodes: &[u32], node: u32) -> usize
     let mut count: usize = 0;
     let mut i: usize = 0;
     while i < end {
-        count += lists::wide(nodes[i * Encoding::NODE_WIDTH]);
+        count += nodes[i * Encoding::NODE_WIDTH] as usize;
         i += 1;
     }
     count

@@ -1,4 +1,5 @@
 -- The outcome by the verdict, and what is written. Assumes nothing.
+use Rattle.std.specs.Prelude.{Ok}
 use mathlib.Core.Path.{◌≡◌, refl, ap, ap₂, sym, ◌∙◌}
 use mathlib.Core.Bool.{Bool, true, false, cond}
 use Prim.Native.Nat.{ℕ, ◌*◌, ◌/◌, ◌≤◌}
@@ -14,7 +15,6 @@ use Rattle.record.specs.Walk.{all_rows}
 use Rattle.record.specs.WellFormed.{Stores, nodes_in, rows_in}
 use Rattle.record.specs.Outcome.{Outcome, refused, in_room, Room, Writes}
 use Rattle.record.specs.declared.Refusal.TheVariants.{MalformedRecord, NoRoom, NotText, OffsetPastEnd, OffsetInsideCharacter}
-use Rattle.record.specs.declared.Written.TheVariants.{Done}
 use Rattle.record.proofs.Flat.{length_nodes, length_rows}
 use Rattle.record.proofs.Outcome.{in_room_lem, no_room, writes_done}
 use Rattle.record.proofs.Read.{stored}
@@ -150,7 +150,7 @@ module _ {way : Way} {nodes rows text : List ℕ} {total : ℕ} (a : Accepts way
         ∙ ap (λ (R : List Row). flat_map row_numbers (map (with_offsets (convert_by way text)) R)) (sym (rows_stored nodes rows a.f a.reads))
 
     pub all_written : length nodes ≤ length on → length rows ≤ length or → {on' or' : List ℕ} → on' ≡ sets on 0 nodes → or' ≡ sets or 0 (converted_numbers way text rows)
-        → Writes (offsets_outcome way (read nodes rows) text on or) (Done (length nodes / node_width) (length rows / row_width)) on or on' or'
+        → Writes (offsets_outcome way (read nodes rows) text on or) (Ok (record { nodes = (length nodes / node_width); rows = (length rows / row_width) })) on or on' or'
     unfolding result
     all_written nodes_fit rows_fit n r =
         let g = convert_by way text in

@@ -18,7 +18,7 @@ pub fn bytes_to_chars(
     text: &[u8],
     out_nodes: &mut [u32],
     out_rows: &mut [u32],
-) -> Written
+) -> Result<Written, Refusal>
     ensures { Writes
         (offsets_outcome ToCharacters (read nodes.now rows.now) text.now
         out_nodes.old out_rows.old)
@@ -35,7 +35,7 @@ pub fn chars_to_bytes(
     text: &[u8],
     out_nodes: &mut [u32],
     out_rows: &mut [u32],
-) -> Written
+) -> Result<Written, Refusal>
     ensures { Writes
         (offsets_outcome ToBytes (read nodes.now rows.now) text.now
         out_nodes.old out_rows.old)
@@ -52,7 +52,7 @@ fn convert_batch(
     text: &[u8],
     out_nodes: &mut [u32],
     out_rows: &mut [u32],
-) -> Written
+) -> Result<Written, Refusal>
     ensures { Writes
         (offsets_outcome way (read nodes.now rows.now) text.now
         out_nodes.old out_rows.old)
@@ -60,21 +60,21 @@ fn convert_batch(
         out_nodes.new out_rows.new }
 {
     let total = match offsets_verdict::judge(way, nodes, rows, text) {
-        Verdict::Malformed => return Written::Refused(Refusal::MalformedRecord),
-        Verdict::NotText => return Written::Refused(Refusal::NotText),
-        Verdict::PastEnd => return Written::Refused(Refusal::OffsetPastEnd),
-        Verdict::InsideCharacter => return Written::Refused(Refusal::OffsetInsideCharacter),
+        Verdict::Malformed => return Err(Refusal::MalformedRecord),
+        Verdict::NotText => return Err(Refusal::NotText),
+        Verdict::PastEnd => return Err(Refusal::OffsetPastEnd),
+        Verdict::InsideCharacter => return Err(Refusal::OffsetInsideCharacter),
         Verdict::Accepted(total) => total,
     };
     if out_nodes.len() < nodes.len() {
-        return Written::Refused(Refusal::NoRoom);
+        return Err(Refusal::NoRoom);
     }
     if out_rows.len() < rows.len() {
-        return Written::Refused(Refusal::NoRoom);
+        return Err(Refusal::NoRoom);
     }
     offsets_batch::write_converted(way, nodes, rows, text, total, out_nodes, out_rows);
-    Written::Done {
+    Ok(Written {
         nodes: nodes.len() / Encoding::NODE_WIDTH,
         rows: rows.len() / Encoding::ROW_WIDTH,
-    }
+    })
 }

@@ -32,16 +32,11 @@ fn row_fault(way: Way, text: &[u8], total: usize, rows: &[u32], at: usize) -> Fa
     requires { CountedText text.now total × (at + row_width ≤ length rows.now) }
     ensures { result ≡ row_fault (fault_by way text.now) (row_at (drop at rows.now)) }
 {
-    let start = offset_fault(
-        way,
-        text,
-        total,
-        lists::wide(rows[at + Column::OFFSET_START]),
-    );
+    let start = offset_fault(way, text, total, rows[at + Column::OFFSET_START] as usize);
     if wrong(start) {
         return start;
     }
-    offset_fault(way, text, total, lists::wide(rows[at + Column::OFFSET_END]))
+    offset_fault(way, text, total, rows[at + Column::OFFSET_END] as usize)
 }
 
 // What is wrong with an offset in a text of so many characters.

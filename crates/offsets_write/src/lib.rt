@@ -82,7 +82,7 @@ fn convert_row(
     let mut column = 0;
     while column < OFFSETS {
         let place = at + Column::OFFSET_START + column;
-        let offset = lists::wide(rows[place]);
+        let offset = rows[place] as usize;
         stretch = stretch_with(way, text, grain, table, stretch, offset);
         rows[place] = value(stretch, offset);
         column += 1;

@@ -1,5 +1,7 @@
 -- What becomes of encodings that are to be padded: each refusal, and the result.
 -- Assumes nothing.
+use Rattle.record.specs.declared.Refusal.{Refusal}
+use Rattle.std.specs.Prelude.{Result}
 use mathlib.Core.Path.{◌≡◌, refl, sym, ap, subst, ◌∙◌}
 use mathlib.Core.Bool.{Bool, true, false, cond}
 use mathlib.Core.Logic.{⊎_elim}
@@ -30,7 +32,7 @@ use Rattle.pad.specs.Padding.{unless_outside, pad_outcome, pad_encodings_outcome
 use Rattle.pad_room.proofs.Limits.{long_refused, none_done}
 
 -- the promise by an outcome that is the same
-pub writes_as : {o o' : Outcome} {answer : Written} {nodes rows nodes' rows' : List ℕ} → o ≡ o' → Writes o answer nodes rows nodes' rows' → Writes o' answer nodes rows nodes' rows'
+pub writes_as : {o o' : Outcome} {answer : Result Written Refusal} {nodes rows nodes' rows' : List ℕ} → o ≡ o' → Writes o answer nodes rows nodes' rows' → Writes o' answer nodes rows nodes' rows'
 writes_as {o} {o'} {answer} {nodes} {rows} {nodes'} {rows'} e w = subst (λ (t : Outcome). Writes t answer nodes rows nodes' rows') e w
 
 -- ---- The outcome of `pad`

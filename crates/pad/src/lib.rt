@@ -23,16 +23,16 @@ pub fn pad(
     direction: Direction,
     out_nodes: &mut [u32],
     out_rows: &mut [u32],
-) -> Written
+) -> Result<Written, Refusal>
     ensures { Writes (pad_outcome out_nodes.old out_rows.old (length added.now)
         target_length token direction (read nodes.now rows.now)) result out_nodes.old
         out_rows.old out_nodes.new out_rows.new }
 {
     if !record_check::is_one(nodes, rows) {
-        return Written::Refused(Refusal::MalformedRecord);
+        return Err(Refusal::MalformedRecord);
     }
     if !pad_length::text_inside(token, added.len()) {
-        return Written::Refused(Refusal::TextOutsidePool);
+        return Err(Refusal::TextOutsidePool);
     }
     pad_room::pad_stored(
         nodes,
@@ -57,7 +57,7 @@ pub fn pad_encodings(
     direction: Direction,
     out_nodes: &mut [u32],
     out_rows: &mut [u32],
-) -> Written
+) -> Result<Written, Refusal>
     ensures { Writes (pad_encodings_outcome out_nodes.old out_rows.old
         (length added.now) strategy multiple token direction
         (read nodes.now rows.now)) result out_nodes.old out_rows.old
@@ -65,10 +65,10 @@ pub fn pad_encodings(
 {
     let shape = record_check::check_batch(nodes, rows);
     let Shape::Encodings(_) = shape else {
-        return Written::Refused(Refusal::MalformedRecord);
+        return Err(Refusal::MalformedRecord);
     };
     if !pad_length::text_inside(token, added.len()) {
-        return Written::Refused(Refusal::TextOutsidePool);
+        return Err(Refusal::TextOutsidePool);
     }
     let target = pad_length::rounded_length(pad_length::padding_length(nodes, strategy), multiple);
     pad_room::pad_stored(nodes, rows, target, token, direction, out_nodes, out_rows)

@@ -62,7 +62,7 @@ fn longest_top(nodes: &[u32]) -> u64
         let windows = nodes[i + 1];
         i += Encoding::NODE_WIDTH;
         if pending == 0 {
-            most = lists::larger_number(most, size);
+            most = most.max(size);
             pending = windows;
         } else {
             pending = pending - 1 + windows;
@@ -75,7 +75,7 @@ fn longest_top(nodes: &[u32]) -> u64
 pub fn text_inside(token: PadToken, pool: usize) -> bool
     ensures { result ≡ text_inside token pool }
 {
-    lists::wide(token.text_start) + lists::wide(token.text_length) <= pool
+    token.text_start as usize + (token.text_length as usize) <= pool
 }
 
 // The rows of all nodes once none has fewer than the target.
@@ -86,7 +86,7 @@ pub fn padded_rows(nodes: &[u32], target: u32) -> usize
     let mut total: usize = 0;
     let mut i: usize = 0;
     while i < nodes.len() {
-        total += lists::wide(lists::larger_number(nodes[i], target));
+        total += nodes[i].max(target) as usize;
         i += Encoding::NODE_WIDTH;
     }
     total

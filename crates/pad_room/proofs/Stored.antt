@@ -1,5 +1,6 @@
 -- What becomes of stored encodings that are to be padded: no room, or the result.
 -- Assumes nothing.
+use Rattle.std.specs.Prelude.{Ok}
 use mathlib.Core.Path.{◌≡◌, refl, sym, ap, ap₂, ◌∙◌}
 use Prim.Native.Nat.{ℕ, ◌*◌, ◌/◌, ◌≤◌, ◌<◌}
 use native.Mathlib.Nat.{mul-div_cancel}
@@ -11,7 +12,6 @@ use Rattle.record.specs.Flat.{row_width, node_width, flat_nodes, flat_rows}
 use Rattle.record.specs.WellFormed.{Stores, nodes_in, most_rows}
 use Rattle.record.specs.Outcome.{Room, refused, in_room, Writes}
 use Rattle.record.specs.declared.Refusal.TheVariants.{NoRoom}
-use Rattle.record.specs.declared.Written.TheVariants.{Done}
 use Rattle.record.proofs.Outcome.{in_room_lem, no_room, room_lengths, writes_done}
 use Rattle.cut_plan.specs.declared.Direction.{Direction}
 use Rattle.pad_rows.specs.declared.PadToken.{PadToken}
@@ -44,18 +44,18 @@ module _ {nodes rows : List ℕ} {f : Forest} (s : Stores nodes rows f) (target 
     room = record { fits = (padded_well target token d f s.well few).fits; nodes_fit = omega (arith, padded_nodes target token d f, nodes_long); rows_fit = omega (arith, padded_rows_lem target token d f) }
 
     pub stored_writes : {total : ℕ} {out₁ out₁' : List ℕ} → total ≡ rows_with target f → Filled (padded target token d f) out out' out₁ out₁'
-        → Writes (in_room out out' (padded target token d f)) (Done (length nodes / node_width) total) out out' out₁ out₁'
+        → Writes (in_room out out' (padded target token d f)) (Ok (record { nodes = (length nodes / node_width); rows = total })) out out' out₁ out₁'
     stored_writes {total} {out₁} {out₁'} t p =
         let l = room_lengths (padded_fine target token d f s.well.fine) room in
         let n : length nodes / node_width ≡ nodes_in (padded target token d f) = ap (λ (k : ℕ). k / node_width) nodes_long ∙ mul-div_cancel (nodes_in f) (omega arith) ∙ sym (padded_nodes target token d f) in
-        writes_done (padded target token d f) (in_room_lem out out' (padded target token d f) room) l.0 l.1 (ap₂ Done n (t ∙ sym (padded_rows_lem target token d f))) p.nodes_put p.rows_put
+        writes_done (padded target token d f) (in_room_lem out out' (padded target token d f) room) l.0 l.1 (ap₂ Ok (record { nodes = n; rows = (t ∙ sym (padded_rows_lem target token d f)) })) p.nodes_put p.rows_put
 
   -- no encodings: nothing is written
-  pub stored_none : length nodes ≡ 0 → Writes (in_room out out' (padded target token d f)) (Done 0 0) out out' out out'
+  pub stored_none : length nodes ≡ 0 → Writes (in_room out out' (padded target token d f)) (Ok (record { nodes = 0; rows = 0 })) out out' out out'
   unfolding flat_nodes flat_rows
   stored_none e = go f (sym nodes_long ∙ e)
     where
-      go : (y : Forest) → nodes_in y * node_width ≡ 0 → Writes (in_room out out' (padded target token d y)) (Done 0 0) out out' out out'
+      go : (y : Forest) → nodes_in y * node_width ≡ 0 → Writes (in_room out out' (padded target token d y)) (Ok (record { nodes = 0; rows = 0 })) out out' out out'
       go (node r q w x) z = absurd (omega arith)
       go none z = writes_done none (none_done target token d out out') (omega arith) (omega arith) refl refl refl
 

@@ -19,32 +19,32 @@ pub fn pad_stored(
     direction: Direction,
     out_nodes: &mut [u32],
     out_rows: &mut [u32],
-) -> Written
+) -> Result<Written, Refusal>
     requires { (f : Forest) × Stores nodes.now rows.now f }
     ensures { (f : Forest) → Stores nodes.now rows.now f → Writes
         (in_room out_nodes.old out_rows.old (padded target token direction f)) result
         out_nodes.old out_rows.old out_nodes.new out_rows.new }
 {
     if nodes.len() == 0 {
-        return Written::Done { nodes: 0, rows: 0 };
+        return Ok(Written { nodes: 0, rows: 0 });
     }
     if target > Encoding::MOST_ROWS as u64 {
-        return Written::Refused(Refusal::NoRoom);
+        return Err(Refusal::NoRoom);
     }
     let length = target as u32;
     let total = pad_length::padded_rows(nodes, length);
     if total > Encoding::MOST_ROWS {
-        return Written::Refused(Refusal::NoRoom);
+        return Err(Refusal::NoRoom);
     }
     if out_nodes.len() < nodes.len() {
-        return Written::Refused(Refusal::NoRoom);
+        return Err(Refusal::NoRoom);
     }
     if out_rows.len() < total * Encoding::ROW_WIDTH {
-        return Written::Refused(Refusal::NoRoom);
+        return Err(Refusal::NoRoom);
     }
     pad_write::write_padded(nodes, rows, length, token, direction, out_nodes, out_rows);
-    Written::Done {
+    Ok(Written {
         nodes: nodes.len() / Encoding::NODE_WIDTH,
         rows: total,
-    }
+    })
 }

@@ -36,7 +36,7 @@ pub fn write_rows(
     ensures { out.new ≡ sets out.old to (beside direction (pad_numbers token new)
         (take (size * row_width) (drop from rows.now))) }
 {
-    let own = lists::wide(size) * Encoding::ROW_WIDTH;
+    let own = size as usize * Encoding::ROW_WIDTH;
     match direction {
         Direction::Left => {
             write_pads(token, new, out, to);
@@ -45,7 +45,7 @@ pub fn write_rows(
                 from,
                 own,
                 out,
-                to + lists::wide(new) * Encoding::ROW_WIDTH,
+                to + new as usize * Encoding::ROW_WIDTH,
             )
         }
         Direction::Right => {

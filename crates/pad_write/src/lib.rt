@@ -30,12 +30,12 @@ pub fn write_padded(
     let mut to: usize = 0;
     while i < nodes.len() {
         let size = nodes[i];
-        let count = lists::larger_number(size, target);
+        let count = size.max(target);
         let new = count - size;
         pad_nodes::write_node(nodes, i, count, new, direction, out_nodes);
         pad_rows::write_rows(rows, from, size, new, token, direction, out_rows, to);
         i += Encoding::NODE_WIDTH;
-        from += lists::wide(size) * Encoding::ROW_WIDTH;
-        to += lists::wide(count) * Encoding::ROW_WIDTH;
+        from += size as usize * Encoding::ROW_WIDTH;
+        to += count as usize * Encoding::ROW_WIDTH;
     }
 }

@@ -28,7 +28,7 @@ pub fn process<'a>(
     out_rows: &mut [u32],
     working_nodes: &mut [u32],
     working_rows: &mut [u32],
-) -> Written
+) -> Result<Written, Refusal>
     ensures { WritesWith
         (process_outcome nodes.now rows.now single_set single.now pair_set pair.now
         entries.now members.now added.now add_special_tokens out_nodes.old
@@ -51,7 +51,7 @@ pub fn process<'a>(
         &mut steps,
     );
     match decision {
-        Decision::Refused(why) => Written::Refused(why),
+        Decision::Refused(why) => Err(why),
         Decision::Take { second, count } => process_apply::apply_steps(
             nodes,
             rows,

@@ -1,5 +1,6 @@
 -- What becomes of steps that are to be taken: the refusal, and the result.
 -- Assumes nothing.
+use Rattle.std.specs.Prelude.{Ok}
 use mathlib.Core.Path.{◌≡◌, ap₂}
 use mathlib.Core.Bool.{true, false}
 use mathlib.Core.Option.{Option, none as nothing, some}
@@ -11,7 +12,6 @@ use Rattle.record.specs.WellFormed.{Fine}
 use Rattle.record.specs.Standing.{Here, Put}
 use Rattle.record.specs.Outcome.{refused}
 use Rattle.record.specs.declared.Refusal.TheVariants.{NoRoom}
-use Rattle.record.specs.declared.Written.TheVariants.{Done}
 use Rattle.record.proofs.Outcome.{writes_done, room_lengths}
 use Rattle.join_trees.specs.Join.{fold}
 use Rattle.join_trees.specs.Offsets.{most_offset}
@@ -71,11 +71,11 @@ module _ {nodes rows : List ℕ} {s : Spot} {entries members numbers : List ℕ}
       steps_ready e' known = record { steps_here = h; within = steps_fit_lem entries members h.inputs known steps h.fine; room = roomy_room sized out out' e; working_room = roomy_room sized working working' e' }
 
       pub steps_done : {out₁ out₁' working₁ working₁' : List ℕ} → Ready nodes rows s entries members numbers count out out' working working' E second steps → Put (fold false all ∷ []) out 0 out' 0 out₁ out₁' → Zeroed working working' working₁ working₁'
-          → WritesWith (folded_into all out out' working working') (Done size.nodes size.rows) out out' working working' out₁ out₁' working₁ working₁'
+          → WritesWith (folded_into all out out' working working') (Ok (record { nodes = size.nodes; rows = size.rows })) out out' working working' out₁ out₁' working₁ working₁'
       steps_done r put zero =
           let F = forest (fold false all ∷ []) in
           let done = folded_done out out' working working' all r.room r.working_room in
           let fine : Fine F = fold_fine false all (steps_fine entries members h.inputs steps h.fine) in
           let l = room_lengths fine r.room in
           let k = roomy_takes sized out out' e in
-          with_done F done (writes_done F done l.0 l.1 (ap₂ Done k.nodes k.rows) put.nodes_put put.rows_put) zero
+          with_done F done (writes_done F done l.0 l.1 (ap₂ Ok (record { nodes = k.nodes; rows = k.rows })) put.nodes_put put.rows_put) zero

@@ -19,7 +19,7 @@ pub fn apply_steps(
     out_rows: &mut [u32],
     working_nodes: &mut [u32],
     working_rows: &mut [u32],
-) -> Written
+) -> Result<Written, Refusal>
     requires { AskApply nodes.now rows.now second entries.now members.now steps.now count }
     ensures { Applies nodes.now rows.now second entries.now members.now
         steps.now count result out_nodes.old out_rows.old
@@ -28,10 +28,10 @@ pub fn apply_steps(
 {
     let size = process_sizes::size_of_steps(nodes, second.node, entries, steps, count);
     if !record_room::has_room(size, out_nodes.len(), out_rows.len()) {
-        return Written::Refused(Refusal::NoRoom);
+        return Err(Refusal::NoRoom);
     }
     if !record_room::has_room(size, working_nodes.len(), working_rows.len()) {
-        return Written::Refused(Refusal::NoRoom);
+        return Err(Refusal::NoRoom);
     }
     process_write::write_steps(
         nodes,
@@ -47,8 +47,8 @@ pub fn apply_steps(
         working_rows,
     );
     join_size::zero_both(working_nodes, working_rows);
-    Written::Done {
+    Ok(Written {
         nodes: size.nodes,
         rows: size.rows,
-    }
+    })
 }

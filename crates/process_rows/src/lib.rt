@@ -70,7 +70,7 @@ pub fn rows_of_steps(
     let mut i: usize = 0;
     while i < count {
         let step = process_steps::step_at(steps, i);
-        rows += lists::wide(rows_of(entries, step, of_first, of_second));
+        rows += rows_of(entries, step, of_first, of_second) as usize;
         i += 1;
     }
     rows

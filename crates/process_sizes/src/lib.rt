@@ -65,7 +65,7 @@ fn with_step(
         Step::Second(_) => join_levels::joined_profile(so_far, second),
         Step::Special(_, entry) => with_special(
             so_far,
-            lists::wide(process_rows::rows_of_entry(entries, entry)),
+            process_rows::rows_of_entry(entries, entry) as usize,
         ),
     }
 }

@@ -34,7 +34,7 @@ pub fn append_special(
         return;
     }
     let size = out_nodes[0];
-    let end = lists::wide(size) * Encoding::ROW_WIDTH;
+    let end = size as usize * Encoding::ROW_WIDTH;
     process_special_rows::write_specials(members, first, count, type_id, out_rows, end);
     out_nodes[0] = size + count as u32;
 }

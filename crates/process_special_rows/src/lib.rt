@@ -36,7 +36,7 @@ pub fn lengthen(
     let mut to: usize = 0;
     while i < nodes.len() {
         let size = nodes[i];
-        let own = lists::wide(size) * Encoding::ROW_WIDTH;
+        let own = size as usize * Encoding::ROW_WIDTH;
         lists::copy(rows, from, own, out, to);
         write_specials(members, first, count, type_id, out, to + own);
         nodes[i] = size + count as u32;

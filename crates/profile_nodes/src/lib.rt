@@ -32,7 +32,7 @@ pub fn first_break(nodes: &[u32], rows: &[u32]) -> Break
         }
         best = profile_node::check_node(nodes, i, rows, j, node, best);
         left = left_after(left, windows);
-        j += lists::wide(nodes[i]) * Encoding::ROW_WIDTH;
+        j += nodes[i] as usize * Encoding::ROW_WIDTH;
         i += Encoding::NODE_WIDTH;
         node += 1;
     }

@@ -34,7 +34,7 @@ fn in_order(nodes: &[u32], i: usize) -> bool
             if nodes[at + 1] < end {
                 return false;
             }
-            end = lists::larger_number(end, nodes[at + 2]);
+            end = end.max(nodes[at + 2]);
         }
         k += 1;
     }

@@ -1,5 +1,6 @@
 -- When a result has room, and how an operation that writes meets its promise.
 -- Assumes nothing.
+use Rattle.std.specs.Prelude.{Result, Ok, Err}
 use mathlib.Core.Path.{◌≡◌, refl, ap, ◌∙◌}
 use mathlib.Core.Bool.{Bool, true, false, ◌&&◌, cond}
 use Prim.Native.Nat.{ℕ, ◌*◌, ◌≤◌}
@@ -17,7 +18,6 @@ use Rattle.record.specs.Outcome.{Outcome, refused, done, in_room, Room, left, af
 use Rattle.record.specs.declared.Refusal.{Refusal}
 use Rattle.record.specs.declared.Refusal.TheVariants.{NoRoom}
 use Rattle.record.specs.declared.Written.{Written}
-use Rattle.record.specs.declared.Written.TheVariants.{Refused, Done}
 use Rattle.record.proofs.Flat.{length_nodes, length_rows}
 use Rattle.lists.proofs.Sets.{sets_over}
 use Rattle.record.proofs.WellFormed.{Tells, tells_le, tells_and₃, tells_fits}
@@ -39,9 +39,9 @@ no_room nodes rows f h = go _ (λ e. let p = (tells_room nodes rows f).so e in h
 
 -- ---- The promise
 
-module _ {o : Outcome} {answer : Written} {nodes rows nodes' rows' : List ℕ} where
+module _ {o : Outcome} {answer : Result Written Refusal} {nodes rows nodes' rows' : List ℕ} where
   -- refused, save with 6: nothing has changed
-  pub writes_refused : (k : Refusal) → o ≡ refused k → eqb (number_of k) 6 ≡ false → answer ≡ Refused k → nodes' ≡ nodes → rows' ≡ rows → Writes o answer nodes rows nodes' rows'
+  pub writes_refused : (k : Refusal) → o ≡ refused k → eqb (number_of k) 6 ≡ false → answer ≡ Err k → nodes' ≡ nodes → rows' ≡ rows → Writes o answer nodes rows nodes' rows'
   unfolding left
   writes_refused k e six a n r = rw e (record { answers = a; nodes_left = n ∙ kept nodes; rows_left = r ∙ kept rows })
     where
@@ -49,7 +49,7 @@ module _ {o : Outcome} {answer : Written} {nodes rows nodes' rows' : List ℕ} w
       kept was = rw six
 
   -- done: the result was written from the front of the two lists
-  pub writes_done : (f : Forest) → o ≡ done f → length (flat_nodes f) ≤ length nodes → length (flat_rows f) ≤ length rows → answer ≡ Done (nodes_in f) (rows_in f) → nodes' ≡ sets nodes 0 (flat_nodes f) → rows' ≡ sets rows 0 (flat_rows f) → Writes o answer nodes rows nodes' rows'
+  pub writes_done : (f : Forest) → o ≡ done f → length (flat_nodes f) ≤ length nodes → length (flat_rows f) ≤ length rows → answer ≡ Ok (record { nodes = nodes_in f; rows = rows_in f }) → nodes' ≡ sets nodes 0 (flat_nodes f) → rows' ≡ sets rows 0 (flat_rows f) → Writes o answer nodes rows nodes' rows'
   unfolding left
   writes_done f e ln lr a n r = rw e (record { answers = a; nodes_left = n ∙ sets_over nodes (flat_nodes f) ln; rows_left = r ∙ sets_over rows (flat_rows f) lr })
 

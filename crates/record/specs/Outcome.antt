@@ -1,6 +1,6 @@
 -- What an operation that writes answers, and what it leaves in the buffers lent to it: once, for all of them.
 -- Assumes nothing: these are definitions.
-use Rattle.std.specs.Prelude.{◌≡◌, ◌&&◌, cond, ℕ, ◌*◌, ◌≤◌, List, [], ◌∷◌, ◌++◌, leb, eqb, length, drop}
+use Rattle.std.specs.Prelude.{◌≡◌, ◌&&◌, cond, ℕ, ◌*◌, ◌≤◌, List, [], ◌∷◌, ◌++◌, leb, eqb, length, drop, Result, Ok, Err}
 use Rattle.record.specs.Tree.{Forest}
 use Rattle.record.specs.Flat.{row_width, node_width, flat_nodes, flat_rows}
 use Rattle.record.specs.WellFormed.{Fits, nodes_in, rows_in}
@@ -10,7 +10,6 @@ use Rattle.record.specs.Refusals.{number_of, fault_or}
 use Rattle.record.specs.declared.Refusal.{Refusal}
 use Rattle.record.specs.declared.Refusal.TheVariants.{NoRoom}
 use Rattle.record.specs.declared.Written.{Written}
-use Rattle.record.specs.declared.Written.TheVariants.{Refused, Done}
 
 -- "either does its work or refuses with a number": refused, or done with the encodings that it writes
 pub data Outcome : Type 0 where
@@ -31,24 +30,24 @@ pub record Room (nodes rows : List ℕ) (f : Forest) : Type 0 where
 -- ---- The answer
 
 -- refused with its number, or done with the nodes and rows of the result
-abbrev pub answered : Outcome → Written
-answered (refused k) = Refused k
-answered (done f) = Done (nodes_in f) (rows_in f)
+abbrev pub answered : Outcome → Result Written Refusal
+answered (refused k) = Err k
+answered (done f) = Ok (record { nodes = nodes_in f; rows = rows_in f })
 
--- "A refusal carries only its number": document 01's number for each case, 0 where the work is done
-abbrev pub refusal_of : Written → ℕ
-refusal_of (Refused k) = number_of k
-refusal_of (Done n r) = 0
+-- "A refusal carries only its number": document 01's number for each case, 0 where nothing is refused
+abbrev pub refusal_of : {X : Type 0} → Result X Refusal → ℕ
+refusal_of (Err k) = number_of k
+refusal_of (Ok x) = 0
 
 -- the nodes and rows of the result in the place of what two lent numbers were; a refusal leaves them
-abbrev pub counts_or : List ℕ → Written → List ℕ
-counts_or was (Refused k) = was
-counts_or was (Done n r) = n ∷ r ∷ []
+abbrev pub counts_or : List ℕ → Result Written Refusal → List ℕ
+counts_or was (Err k) = was
+counts_or was (Ok w) = w.nodes ∷ w.rows ∷ []
 
 -- and the part of a template at fault, if that is why
-abbrev pub fault_after : List ℕ → Written → List ℕ
-fault_after was (Refused k) = fault_or was k
-fault_after was (Done n r) = was
+abbrev pub fault_after : List ℕ → Result Written Refusal → List ℕ
+fault_after was (Err k) = fault_or was k
+fault_after was (Ok w) = was
 
 -- ---- The buffers
 
@@ -71,7 +70,7 @@ left_working (refused k) was = after_refusal k was
 left_working (done f) was = zeros was
 
 -- The promise of an operation that writes: its answer, and every number lent for its output afterwards.
-pub record Writes (o : Outcome) (answer : Written) (nodes rows nodes' rows' : List ℕ) : Type 0 where
+pub record Writes (o : Outcome) (answer : Result Written Refusal) (nodes rows nodes' rows' : List ℕ) : Type 0 where
   pub answers : answer ≡ answered o
   pub nodes_left : nodes' ≡ left flat_nodes o nodes
   pub rows_left : rows' ≡ left flat_rows o rows

@@ -1,12 +1,10 @@
 -- The numbers of the refusals (document 01, "When an operation refuses", and document 02).
 -- Assumes nothing: these are definitions.
-use Rattle.std.specs.Prelude.{ℕ, List, [], ◌∷◌}
+use Rattle.std.specs.Prelude.{ℕ, List, [], ◌∷◌, Option as Answer, Some, None}
 use Rattle.std.proofs.Math.Option.{Option, none as nothing, some}
 use Rattle.record.specs.declared.Why.{Why}
 use Rattle.record.specs.declared.Why.TheVariants.{MoreThanOneColon, BadTypeNumber, UnknownSequenceName}
 use Rattle.record.specs.declared.Fault.{Fault}
-use Rattle.record.specs.declared.FaultAnswer.{FaultAnswer}
-use Rattle.record.specs.declared.FaultAnswer.TheVariants.{None, Part}
 use Rattle.record.specs.declared.Refusal.{Refusal}
 use Rattle.record.specs.declared.Refusal.TheVariants.{MalformedRecord, NoRoom, Stride, SecondMissing, TooShort, OffsetTooLarge, TemplateTooLong, PairLacksAOrB, SpecialIdUnknown, BWithoutSecond, IdsAndTextsDiffer, SequenceIdAboveLast, TextOutsidePool, MalformedTable, NotText, OffsetPastEnd, OffsetInsideCharacter, PartUnreadable, TotalTooLarge}
 
@@ -64,9 +62,9 @@ fault_of OffsetInsideCharacter = nothing
 fault_of (PartUnreadable fault) = some fault
 fault_of TotalTooLarge = nothing
 
-abbrev pub fault_answer : Option Fault → FaultAnswer
+abbrev pub fault_answer : Option Fault → Answer Fault
 fault_answer nothing = None
-fault_answer (some fault) = Part fault
+fault_answer (some fault) = Some fault
 
 -- "the part's number and its first byte's place in the text", in the place of what two numbers were
 abbrev pub place_or : List ℕ → Option Fault → List ℕ

@@ -152,13 +152,6 @@ pub enum Refusal {
     TotalTooLarge,
 }
 
-// The part of a template that is at fault, or none.
-#[derive(Clone, Copy)]
-pub enum FaultAnswer {
-    None,
-    Part(Fault),
-}
-
 impl Refusal {
     // The number of document 01 or 02.
     pub fn number(self) -> u32
@@ -191,21 +184,21 @@ impl Refusal {
     }
 
     // The part at fault, if that is why.
-    pub fn fault(self) -> FaultAnswer
+    pub fn fault(self) -> Option<Fault>
         ensures { result ≡ fault_answer (fault_of self) }
     {
-        let Refusal::PartUnreadable(fault) = self else {
-            return FaultAnswer::None;
-        };
-        FaultAnswer::Part(fault)
+        match self {
+            Refusal::PartUnreadable(fault) => Some(fault),
+            _ => None,
+        }
     }
 }
 
-// What an operation that writes answers: refused, or done with the nodes and rows of its result.
+// The nodes and rows of a result, which an operation that writes answers if it is not refused.
 #[derive(Clone, Copy)]
-pub enum Written {
-    Refused(Refusal),
-    Done { nodes: usize, rows: usize },
+pub struct Written {
+    pub nodes: usize,
+    pub rows: usize,
 }
 
 // The widths, each with the promise that it is the definition's: what ties the constants to specs/.

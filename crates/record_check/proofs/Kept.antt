@@ -11,7 +11,7 @@ use Rattle.record.specs.Flat.{row_width, node_width}
 use Rattle.record.specs.WellFormed.{most_levels}
 use Rattle.record_fields.specs.Promises.{RangesOk, NodeFits, NodesFine}
 use Rattle.record_check.specs.Promises.{Passes}
-use Rattle.record_check.specs.declared.Shape.TheVariants.{Malformed, Encodings}
+use Rattle.std.specs.Prelude.{Some, None}
 use Rattle.record_check.proofs.Passes.{Closes, Next}
 use Rattle.record_check.proofs.Track.{Track, Nothing, stack_of, top_at, inner_at, pop_at, short_at, read_at, end_at, over_at, deep_at, push_at, skip_at}
 
@@ -59,16 +59,16 @@ kept_start nodes rows pending e = record {
   track = record { back = λ m h. rw zero-add h; forth = λ m b. (m, omega arith, b) };
 }
 
-nothing : (nodes rows : List ℕ) → Nothing nodes rows → Passes nodes rows Malformed
+nothing : (nodes rows : List ℕ) → Nothing nodes rows → Passes nodes rows None
 nothing nodes rows h m b f = h m b
 
 module _ {nodes rows pending : List ℕ} {depth i j tops : ℕ} (h : Kept nodes rows pending depth i j tops) where
-  pub kept_end : depth ≡ 0 → i ≡ length nodes → j ≡ length rows → Passes nodes rows (Encodings tops)
+  pub kept_end : depth ≡ 0 → i ≡ length nodes → j ≡ length rows → Passes nodes rows (Some tops)
   kept_end d e r =
       let b = end_at nodes rows tops pending depth i j d e r h.track in
       (b.0, b.1, fine_end h.fine e)
 
-  pub kept_over : depth ≡ 0 → i ≡ length nodes → (j ≡ length rows → ⊥) → Passes nodes rows Malformed
+  pub kept_over : depth ≡ 0 → i ≡ length nodes → (j ≡ length rows → ⊥) → Passes nodes rows None
   kept_over d e r = nothing nodes rows (over_at nodes rows tops pending depth i j d e (omega arith) h.track)
 
   pub kept_pop : (e : ℕ) → depth ≡ suc e → get_or pending e 0 ≡ 0 → Kept nodes rows pending e i j tops
@@ -83,14 +83,14 @@ module _ {nodes rows pending : List ℕ} {depth i j tops : ℕ} (h : Kept nodes 
 -- ---- The next node, with what was kept before it
 
 module _ {nodes rows pending pending' : List ℕ} {depth i j tops tops' : ℕ} (h : Kept nodes rows pending depth i j tops) (u : Due nodes rows pending' depth i j tops') where
-  pub due_unfit : (NodeFits nodes i (length rows - j) → ⊥) → Passes nodes rows Malformed
+  pub due_unfit : (NodeFits nodes i (length rows - j) → ⊥) → Passes nodes rows None
   due_unfit not m b f = short_at nodes rows tops' pending' depth i j (λ a r. not (record { whole = a; rows = r; fine = fine_at h.fine (omega (arith, h.in_nodes)) f })) u.track m b
 
   module _ (fits : NodeFits nodes i (length rows - j)) where
     after : Track nodes rows tops' (λ m. Closes m (get_or nodes (i + 1) 0 ∷ stack_of pending' depth) (drop (i + node_width) nodes) (drop (j + get_or nodes i 0 * row_width) rows))
     after = read_at nodes rows tops' pending' depth i j (omega (arith, fits.whole)) (omega (arith, fits.rows, h.in_rows)) (omega (arith, h.shallow)) u.track
 
-    pub due_deep : 0 < get_or nodes (i + 1) 0 → most_levels ≤ depth → Passes nodes rows Malformed
+    pub due_deep : 0 < get_or nodes (i + 1) 0 → most_levels ≤ depth → Passes nodes rows None
     due_deep w d = nothing nodes rows (deep_at nodes rows tops' pending' depth (i + node_width) (j + get_or nodes i 0 * row_width) (get_or nodes (i + 1) 0) w d after)
 
     -- its row count, as it was read

@@ -3,3 +3,4 @@ pub mod Track
 pub mod Kept
 pub mod Meets
 pub mod Checked
+mod Told

@@ -19,8 +19,8 @@ use Rattle.record.proofs.Walk.{flat_rows_lem, row_number}
 use Rattle.record_check.specs.Promises.{Good, Builds, Built, Passes}
 use Rattle.record_fields.specs.Promises.{RangeOk, RangesOk, NodesFine, RowAt, RowsFine}
 use Rattle.record_check.specs.Answers.{shape_of}
-use Rattle.record_check.specs.declared.Shape.{Shape}
-use Rattle.record_check.specs.declared.Shape.TheVariants.{Malformed, Encodings}
+use Rattle.record.specs.declared.Refusal.TheVariants.{MalformedRecord}
+use Rattle.std.specs.Prelude.{Option, Some, None, Ok, Err, ok_or}
 
 -- ---- Rows
 
@@ -196,17 +196,17 @@ module _ (nodes rows : List ℕ) where
     few_rows = omega (arith, ap length s.rows_are, length_rows f)
 
   -- nothing is stored
-  pub refuses : ((f : Forest) → Stores nodes rows f → ⊥) → Malformed ≡ shape_of (read nodes rows)
+  pub refuses : ((f : Forest) → Stores nodes rows f → ⊥) → Err MalformedRecord ≡ shape_of (read nodes rows)
   refuses none_is = go (read nodes rows) refl
     where
-      go : (a : Reading) → read nodes rows ≡ a → Malformed ≡ shape_of a
+      go : (a : Reading) → read nodes rows ≡ a → Err MalformedRecord ≡ shape_of a
       go malformed e = refl
       go (holds f) e = absurd (none_is f (stored nodes rows f e))
 
-  pub answers : (r : Shape) → Passes nodes rows r → RowsFine rows → length nodes ≤ most_nodes * node_width → length rows ≤ most_rows * row_width → r ≡ shape_of (read nodes rows)
+  pub answers : (r : Option ℕ) → Passes nodes rows r → RowsFine rows → length nodes ≤ most_nodes * node_width → length rows ≤ most_rows * row_width → ok_or r MalformedRecord ≡ shape_of (read nodes rows)
   unfolding Built
-  answers Malformed a k ln lr = refuses (λ f s. a _ (f, builds f s) (nodes_fine f s))
-  answers (Encodings m) a k ln lr =
+  answers None a k ln lr = refuses (λ f s. a _ (f, builds f s) (nodes_fine f s))
+  answers (Some m) a k ln lr =
       let f = a.0.0 in
       let b = a.0.1 in
-      rw (found nodes rows f (stores m f b a.2 k ln lr)) (ap Encodings (sym b.counts))
+      rw (found nodes rows f (stores m f b a.2 k ln lr)) (ap Ok (sym b.counts))

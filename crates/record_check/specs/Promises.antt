@@ -1,12 +1,10 @@
 -- What the pass over the nodes sees: the tree, its widths, its levels and its ranges.
 -- Assumes nothing: these are definitions.
-use Rattle.std.specs.Prelude.{◌≡◌, ℕ, suc, ◌≤◌, List, length}
+use Rattle.std.specs.Prelude.{◌≡◌, ℕ, suc, ◌≤◌, List, length, Option, Some, None}
 use Rattle.record.specs.Tree.{Forest, none, node, tops, sequences}
 use Rattle.record.specs.Flat.{flat_nodes, flat_rows}
 use Rattle.record.specs.WellFormed.{most_levels}
 use Rattle.record_fields.specs.Promises.{NodesFine}
-use Rattle.record_check.specs.declared.Shape.{Shape}
-use Rattle.record_check.specs.declared.Shape.TheVariants.{Malformed, Encodings}
 
 -- the top stands l levels below the batch's top, and no node is more than 16 below it
 unfoldable pub Good : ℕ → Forest → Type 0
@@ -23,7 +21,7 @@ pub record Builds (m : ℕ) (nodes rows : List ℕ) (f : Forest) : Type 0 where
 unfoldable pub Built : ℕ → List ℕ → List ℕ → Type 0
 Built m nodes rows = (f : Forest) × Builds m nodes rows f
 
--- `Encodings m` exactly if the lists store encodings with fine ranges, which then are m
-abbrev pub Passes : List ℕ → List ℕ → Shape → Type 0
-Passes nodes rows Malformed = (m : ℕ) → Built m nodes rows → NodesFine nodes → ⊥
-Passes nodes rows (Encodings k) = Built k nodes rows × ((m : ℕ) → Built m nodes rows → m ≡ k) × NodesFine nodes
+-- `Some m` exactly if the lists store encodings with fine ranges, which then are m
+abbrev pub Passes : List ℕ → List ℕ → Option ℕ → Type 0
+Passes nodes rows None = (m : ℕ) → Built m nodes rows → NodesFine nodes → ⊥
+Passes nodes rows (Some k) = Built k nodes rows × ((m : ℕ) → Built m nodes rows → m ≡ k) × NodesFine nodes

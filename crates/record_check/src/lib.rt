@@ -6,39 +6,32 @@ ghost use Rattle.record.specs.Read.{read, is_one, is_one_or_two};
 ghost use Rattle.record_check.specs.Answers.{shape_of};
 ghost use Rattle.record_check.specs.Promises.{Passes};
 
-use record::Encoding;
+use record::{Encoding, Refusal};
 
-// What a batch is: malformed, or this many encodings at the top.
-#[derive(Clone, Copy)]
-pub enum Shape {
-    Malformed,
-    Encodings(usize),
-}
-
-// Whether two slices are a well-formed batch. Every operation asks this first.
-pub fn check_batch(nodes: &[u32], rows: &[u32]) -> Shape
+// How many encodings at the top a batch has, refused with 1 unless two slices are a well-formed one. Every operation asks
+// this first.
+pub fn check_batch(nodes: &[u32], rows: &[u32]) -> Result<usize, Refusal>
     ensures { result ≡ shape_of (read nodes.now rows.now) }
 {
     if nodes.len() > Encoding::MOST_NODE_NUMBERS {
-        return Shape::Malformed;
+        return Err(Refusal::MalformedRecord);
     }
     if rows.len() > Encoding::MOST_ROW_NUMBERS {
-        return Shape::Malformed;
+        return Err(Refusal::MalformedRecord);
     }
     if record_fields::rows_ok(rows) {
-        return check_nodes(nodes, rows);
+        return check_nodes(nodes, rows).ok_or(Refusal::MalformedRecord);
     }
-    Shape::Malformed
+    Err(Refusal::MalformedRecord)
 }
 
 // Whether they are a well-formed batch of just one encoding.
 pub fn is_one(nodes: &[u32], rows: &[u32]) -> bool
     ensures { result ≡ is_one (read nodes.now rows.now) }
 {
-    let shape = check_batch(nodes, rows);
-    match shape {
-        Shape::Malformed => false,
-        Shape::Encodings(n) => n == 1,
+    match check_batch(nodes, rows) {
+        Ok(n) => n == 1,
+        Err(_) => false,
     }
 }
 
@@ -46,20 +39,14 @@ pub fn is_one(nodes: &[u32], rows: &[u32]) -> bool
 pub fn is_one_or_two(nodes: &[u32], rows: &[u32]) -> bool
     ensures { result ≡ is_one_or_two (read nodes.now rows.now) }
 {
-    let shape = check_batch(nodes, rows);
-    match shape {
-        Shape::Malformed => false,
-        Shape::Encodings(n) => {
-            if n == 1 {
-                return true;
-            }
-            n == 2
-        }
+    match check_batch(nodes, rows) {
+        Ok(n) => n == 1 || n == 2,
+        Err(_) => false,
     }
 }
 
 // The tree and the ranges: whether window counts close, row counts add up, levels are few and ranges are fine.
-fn check_nodes(nodes: &[u32], rows: &[u32]) -> Shape
+fn check_nodes(nodes: &[u32], rows: &[u32]) -> Option<usize>
     ensures { Passes nodes.now rows.now result }
 {
     // pending[..depth] are the windows still to come of the nodes that are open, the outermost first.
@@ -72,9 +59,9 @@ fn check_nodes(nodes: &[u32], rows: &[u32]) -> Shape
         if depth == 0 {
             if i == nodes.len() {
                 if j == rows.len() {
-                    return Shape::Encodings(tops);
+                    return Some(tops);
                 }
-                return Shape::Malformed;
+                return None;
             }
             tops += 1;
         } else {
@@ -86,14 +73,14 @@ fn check_nodes(nodes: &[u32], rows: &[u32]) -> Shape
             pending[depth - 1] = k - 1;
         }
         if !record_fields::node_fits(nodes, i, rows.len() - j) {
-            return Shape::Malformed;
+            return None;
         }
-        j += lists::wide(nodes[i]) * Encoding::ROW_WIDTH;
+        j += nodes[i] as usize * Encoding::ROW_WIDTH;
         let w = nodes[i + 1];
         i += Encoding::NODE_WIDTH;
         if w > 0 {
             if depth == Encoding::MOST_LEVELS {
-                return Shape::Malformed;
+                return None;
             }
             pending[depth] = w;
             depth += 1;

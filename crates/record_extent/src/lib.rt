@@ -24,8 +24,8 @@ fn with_node(passed: Extent, n: u32, below: Extent) -> Extent
 {
     Extent {
         nodes: passed.nodes + (below.nodes + 1),
-        rows: passed.rows + (lists::wide(n) + below.rows),
-        levels: lists::larger(passed.levels, below.levels + 1),
+        rows: passed.rows + (n as usize + below.rows),
+        levels: passed.levels.max(below.levels + 1),
     }
 }
 

@@ -20,7 +20,7 @@ pub fn node_fits(nodes: &[u32], i: usize, room: usize) -> bool
     if nodes.len() - i < Encoding::NODE_WIDTH {
         return false;
     }
-    if room < lists::wide(nodes[i]) * Encoding::ROW_WIDTH {
+    if room < nodes[i] as usize * Encoding::ROW_WIDTH {
         return false;
     }
     node_ok(nodes, i)
@@ -70,7 +70,7 @@ fn marked_word(rows: &[u32], at: usize) -> usize
     requires { at + 1 < length rows.now }
     ensures { result ≡ marked_word rows.now at }
 {
-    lists::wide(rows[at]) + lists::wide(rows[at + 1]) * NUMBERS
+    rows[at] as usize + rows[at + 1] as usize * NUMBERS
 }
 
 // The lowest bit that is set in x, 0 if there is none.
@@ -92,7 +92,7 @@ pub fn rows_ok(rows: &[u32]) -> bool
     let mut lowest: usize = 0;
     while i < count {
         let word = marked_word(rows, at + Column::WORD_MARK);
-        marks = marks | lists::wide(rows[at + Column::POOL]) | word;
+        marks = marks | rows[at + Column::POOL] as usize | word;
         lowest = lowest | lowest_bit(word);
         i += 1;
         at += Encoding::ROW_WIDTH;

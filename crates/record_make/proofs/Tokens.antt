@@ -1,5 +1,6 @@
 -- The encoding of tokens: it is fine, its numbers, when it has room, and what `from_tokens` says then.
 -- Assumes nothing.
+use Rattle.std.specs.Prelude.{Ok}
 use mathlib.Core.Path.{◌≡◌, refl, sym, ap, ◌∙◌}
 use mathlib.Core.Bool.{Bool, cond}
 use mathlib.Core.Logic.{inl}
@@ -14,7 +15,6 @@ use Rattle.record.specs.Flat.{row_width, node_width, row_numbers, range_numbers,
 use Rattle.record.specs.WellFormed.{RangeFine, RowFine, Fine, nodes_in, rows_in, most_rows}
 use Rattle.record.specs.Outcome.{Room, refused, in_room, Writes}
 use Rattle.record.specs.declared.Refusal.TheVariants.{MalformedRecord, NoRoom}
-use Rattle.record.specs.declared.Written.TheVariants.{Done}
 use Rattle.record.proofs.Outcome.{in_room_lem, no_room, room_lengths, writes_done}
 use Rattle.record_write.proofs.TokenRows.{token_rows}
 use Rattle.record_write.specs.Tokens.{token_width, token_row}
@@ -46,7 +46,7 @@ module _ (t n : ℕ) (tokens : List ℕ) where
   unfolding flat_rows
   tokens_rows = append-nil (flat_map row_numbers (token_rows t n tokens))
 
-  tokens_counted : Done 1 n ≡ Done (nodes_in token_forest) (rows_in token_forest)
+  tokens_counted : Ok (record { nodes = 1; rows = n }) ≡ Ok (record { nodes = (nodes_in token_forest); rows = (rows_in token_forest) })
   tokens_counted = let e = rows_long in ap (Done 1) (omega arith)
 
 -- ---- The outcome
@@ -78,7 +78,7 @@ module _ (tokens : List ℕ) (t : ℕ) (nodes rows : List ℕ) where
       whole h ∙ no_room nodes rows result (λ r. full (omega (arith, r.fits.few_rows)) (omega (arith, r.nodes_fit)) (omega (arith, r.rows_fit)))
 
   -- the promise: the row count and zeros for the node, and the rows
-  pub tokens_written : {nodes' rows' : List ℕ} → length tokens % token_width ≡ 0 → count ≤ most_rows → node_width ≤ length nodes → count * row_width ≤ length rows → nodes' ≡ sets nodes 0 (count ∷ replicate (node_width - 1) 0) → rows' ≡ sets rows 0 (flat_map row_numbers (token_rows t count tokens)) → Writes (from_tokens tokens t nodes rows) (Done 1 count) nodes rows nodes' rows'
+  pub tokens_written : {nodes' rows' : List ℕ} → length tokens % token_width ≡ 0 → count ≤ most_rows → node_width ≤ length nodes → count * row_width ≤ length rows → nodes' ≡ sets nodes 0 (count ∷ replicate (node_width - 1) 0) → rows' ≡ sets rows 0 (flat_map row_numbers (token_rows t count tokens)) → Writes (from_tokens tokens t nodes rows) (Ok (record { nodes = 1; rows = count })) nodes rows nodes' rows'
   tokens_written h a b c n r =
       let room = tokens_room a b c in
       let lengths = room_lengths (tokens_fine t count tokens) room in

@@ -14,32 +14,32 @@ pub fn from_tokens(
     type_id: u32,
     out_nodes: &mut [u32],
     out_rows: &mut [u32],
-) -> Written
+) -> Result<Written, Refusal>
     ensures { Writes
         (from_tokens tokens.now type_id out_nodes.old out_rows.old)
         result out_nodes.old out_rows.old
         out_nodes.new out_rows.new }
 {
     if tokens.len() % Token::WIDTH != 0 {
-        return Written::Refused(Refusal::MalformedRecord);
+        return Err(Refusal::MalformedRecord);
     }
     let count = tokens.len() / Token::WIDTH;
     if count > Encoding::MOST_ROWS {
-        return Written::Refused(Refusal::NoRoom);
+        return Err(Refusal::NoRoom);
     }
     if out_nodes.len() < Encoding::NODE_WIDTH {
-        return Written::Refused(Refusal::NoRoom);
+        return Err(Refusal::NoRoom);
     }
     if out_rows.len() < count * Encoding::ROW_WIDTH {
-        return Written::Refused(Refusal::NoRoom);
+        return Err(Refusal::NoRoom);
     }
     out_nodes[0] = count as u32;
     lists::fill(out_nodes, 1, Encoding::NODE_WIDTH - 1, 0);
     record_write::write_tokens(tokens, type_id, count, out_rows);
-    Written::Done {
+    Ok(Written {
         nodes: 1,
         rows: count,
-    }
+    })
 }
 
 // The encoding with the range of a sequence set to all its rows. Other ranges, rows and windows stay.
@@ -49,7 +49,7 @@ pub fn set_sequence_id(
     sequence_id: u32,
     out_nodes: &mut [u32],
     out_rows: &mut [u32],
-) -> Written
+) -> Result<Written, Refusal>
     ensures { Writes
         (set_sequence_id (read nodes.now rows.now) sequence_id
         out_nodes.old out_rows.old)
@@ -57,17 +57,17 @@ pub fn set_sequence_id(
         out_nodes.new out_rows.new }
 {
     if !record_check::is_one(nodes, rows) {
-        return Written::Refused(Refusal::MalformedRecord);
+        return Err(Refusal::MalformedRecord);
     }
     let id = sequence_id as usize;
     if id >= Encoding::SEQUENCES {
-        return Written::Refused(Refusal::SequenceIdAboveLast);
+        return Err(Refusal::SequenceIdAboveLast);
     }
     if out_nodes.len() < nodes.len() {
-        return Written::Refused(Refusal::NoRoom);
+        return Err(Refusal::NoRoom);
     }
     if out_rows.len() < rows.len() {
-        return Written::Refused(Refusal::NoRoom);
+        return Err(Refusal::NoRoom);
     }
     lists::copy(nodes, 0, nodes.len(), out_nodes, 0);
     lists::copy(rows, 0, rows.len(), out_rows, 0);
@@ -77,8 +77,8 @@ pub fn set_sequence_id(
         0,
         nodes[0],
     );
-    Written::Done {
+    Ok(Written {
         nodes: nodes.len() / Encoding::NODE_WIDTH,
         rows: rows.len() / Encoding::ROW_WIDTH,
-    }
+    })
 }

@@ -68,7 +68,7 @@ pub fn list_at(case: &[u32], at: usize) -> Part
 {
     let total = case.len();
     if at < total {
-        let count = lists::wide(case[at]);
+        let count = case[at] as usize;
         let start = at + 1;
         if count <= total - start {
             return Part {

@@ -24,7 +24,7 @@ pub const BEFORE_COUNT: usize = 7;
 fn length_at(case: &[u32], at: usize, lent: &[u32]) -> usize
     ensures { LengthAt case.now at lent.now result }
 {
-    let length = lists::wide(replay_cases::number_at(case, at));
+    let length = replay_cases::number_at(case, at) as usize;
     let most = lent.len();
     if length < most { length } else { most }
 }
@@ -82,10 +82,10 @@ fn told(refusal: u32, counts: &[usize; 2], answers: &[u32]) -> bool
     if replay_cases::number_at(answers, 0) != refusal {
         return false;
     }
-    if lists::wide(replay_cases::number_at(answers, 1)) != counts[0] {
+    if replay_cases::number_at(answers, 1) as usize != counts[0] {
         return false;
     }
-    lists::wide(replay_cases::number_at(answers, 2)) == counts[1]
+    replay_cases::number_at(answers, 2) as usize == counts[1]
 }
 
 // Whether the two lists that end the answers are what was left in the output.

@@ -36,7 +36,7 @@ fn counted(refusal: u32, count: usize, rest: &[u32]) -> Outcome
     if rest[0] != refusal {
         return Outcome::Differs;
     }
-    replay_answers::compared(lists::wide(rest[1]) == count)
+    replay_answers::compared(rest[1] as usize == count)
 }
 
 // `2 nodes rows sequence refusal start end`

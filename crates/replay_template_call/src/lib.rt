@@ -68,13 +68,13 @@ fn pieces_stored(
     if replay_cases::number_at(rest, 0) != refusal {
         return Outcome::Differs;
     }
-    if lists::wide(replay_cases::number_at(rest, 1)) != count {
+    if replay_cases::number_at(rest, 1) as usize != count {
         return Outcome::Differs;
     }
-    if lists::wide(replay_cases::number_at(rest, 2)) != fault[0] {
+    if replay_cases::number_at(rest, 2) as usize != fault[0] {
         return Outcome::Differs;
     }
-    if lists::wide(replay_cases::number_at(rest, 3)) != fault[1] {
+    if replay_cases::number_at(rest, 3) as usize != fault[1] {
         return Outcome::Differs;
     }
     replay_answers::compared(replay_answers::equal(pieces, &rest[start..end]))

@@ -75,7 +75,7 @@ fn turns_left(turns: u64, unread: Unread, held: Held) -> u64
 }
 
 // Prints a report, or the number of a refusal.
-fn print_answer(rt: &(impl Print + Eprint), answer: Added) -> Written
+fn print_answer(rt: &(impl Print + Eprint), answer: Added) -> Result<Written, Refusal>
     ensures { WritesBytes (answer_lines answer) result }
 {
     let mut out = [0u8; ROOM];

@@ -32,7 +32,7 @@ fn node_numbers(bytes: &[u8]) -> usize
     requires { head_bytes ≤ length bytes.now }
     ensures { (result ≡ node_words bytes.now) × (result ≤ largest_word * node_width) }
 {
-    lists::wide(words::word_at(bytes, 0)) * Encoding::NODE_WIDTH
+    words::word_at(bytes, 0) as usize * Encoding::NODE_WIDTH
 }
 
 // How many its rows are.
@@ -40,7 +40,7 @@ fn row_numbers(bytes: &[u8]) -> usize
     requires { head_bytes ≤ length bytes.now }
     ensures { (result ≡ row_words bytes.now) × (result ≤ largest_word * row_width) }
 {
-    lists::wide(words::word_at(bytes, WORD)) * Encoding::ROW_WIDTH
+    words::word_at(bytes, WORD) as usize * Encoding::ROW_WIDTH
 }
 
 // The batch added to a report. Its numbers are put at the start of `numbers`, whose contents afterwards are left open.

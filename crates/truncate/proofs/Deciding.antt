@@ -1,5 +1,6 @@
 -- What becomes of a batch of one encoding that is to be cut: each refusal, and the result.
 -- Assumes nothing.
+use Rattle.std.specs.Prelude.{Ok}
 use mathlib.Core.Path.{◌≡◌, sym, ap, ap₂, subst, ◌∙◌}
 use mathlib.Core.Bool.{Bool, true, false, cond}
 use Prim.Native.Nat.{ℕ, ◌+◌, ◌*◌, ◌≤◌}
@@ -12,7 +13,6 @@ use Rattle.record.specs.Read.{Reading, read, is_one}
 use Rattle.record.specs.Standing.{One, Here, Put}
 use Rattle.record.specs.Outcome.{refused, done, in_room, Writes}
 use Rattle.record.specs.declared.Refusal.TheVariants.{MalformedRecord, NoRoom, Stride}
-use Rattle.record.specs.declared.Written.TheVariants.{Done}
 use Rattle.record.proofs.Flat.{length_nodes, length_rows}
 use Rattle.record.proofs.One.{one_of, not_one, one_at, one_size}
 use Rattle.record.proofs.Outcome.{writes_done}
@@ -88,7 +88,7 @@ module _ {nodes rows : List ℕ} {E : Encoding} (h : One nodes rows E) (out out'
           }
 
       pub one_writes : {size : Extent} {nodes₁ rows₁ : List ℕ} → size ≡ size_after (get_or nodes 0 0) max stride own → Put (truncated max stride d E ∷ []) out 0 out' 0 nodes₁ rows₁
-          → Writes (cut_outcome out out' max stride d E) (Done size.nodes size.rows) out out' nodes₁ rows₁
+          → Writes (cut_outcome out out' max stride d E) (Ok (record { nodes = size.nodes; rows = size.rows })) out out' nodes₁ rows₁
       one_writes {size} {nodes₁} {rows₁} z p =
           let f = roomy_fits (size_after (get_or nodes 0 0) max stride own) (length out) (length out') r in
           let w = z ∙ sym size_here in
@@ -96,6 +96,6 @@ module _ {nodes rows : List ℕ} {E : Encoding} (h : One nodes rows E) (out out'
           writes_done result (outcome_room ∙ ap (λ (b : Bool). cond b (done result) (refused NoRoom)) r)
           (omega (arith, f.0, ap (λ (s : Extent). s.nodes) size_here, length_nodes result (fine.0, fine.1, tt)))
           (omega (arith, f.1, ap (λ (s : Extent). s.rows) size_here, length_rows result))
-          (ap (λ (s : Extent). Done s.nodes s.rows) w)
+          (ap (λ (s : Extent). Ok (record { nodes = s.nodes; rows = s.rows })) w)
           p.nodes_put
           p.rows_put

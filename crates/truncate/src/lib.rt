@@ -20,7 +20,7 @@ pub fn cut_one(
     direction: Direction,
     out_nodes: &mut [u32],
     out_rows: &mut [u32],
-) -> Written
+) -> Result<Written, Refusal>
     requires { AskOne nodes.now rows.now own }
     ensures { Becomes (cut_outcome out_nodes.old out_rows.old max stride direction)
         nodes.now rows.now own result out_nodes.old out_rows.old
@@ -28,19 +28,19 @@ pub fn cut_one(
 {
     let n = nodes[0];
     if truncate_size::stride_refused(n, max, stride) {
-        return Written::Refused(Refusal::Stride);
+        return Err(Refusal::Stride);
     }
     let size = truncate_size::size_after(n, max, stride, own);
     if !record_extent::has_room(size, out_nodes.len(), out_rows.len()) {
-        return Written::Refused(Refusal::NoRoom);
+        return Err(Refusal::NoRoom);
     }
     truncate_write::write_truncated(
         nodes, 0, rows, 0, own, max, stride, direction, out_nodes, 0, out_rows, 0,
     );
-    Written::Done {
+    Ok(Written {
         nodes: size.nodes,
         rows: size.rows,
-    }
+    })
 }
 
 // One encoding, cut to max rows: the kept ones and, as its windows, the others, neighbours sharing stride rows.
@@ -53,13 +53,13 @@ pub fn truncate(
     direction: Direction,
     out_nodes: &mut [u32],
     out_rows: &mut [u32],
-) -> Written
+) -> Result<Written, Refusal>
     ensures { Writes (truncate_outcome out_nodes.old out_rows.old max stride direction
         (read nodes.now rows.now)) result out_nodes.old out_rows.old
         out_nodes.new out_rows.new }
 {
     if !record_check::is_one(nodes, rows) {
-        return Written::Refused(Refusal::MalformedRecord);
+        return Err(Refusal::MalformedRecord);
     }
     let own = record_extent::measure(nodes, 0, 1);
     cut_one(

@@ -31,13 +31,13 @@ pub fn cut_pair(
     direction: Direction,
     out_nodes: &mut [u32],
     out_rows: &mut [u32],
-) -> Written
+) -> Result<Written, Refusal>
     ensures { Writes (cut_pair_outcome out_nodes.old out_rows.old first_length
         second_length stride direction (read nodes.now rows.now)) result out_nodes.old
         out_rows.old out_nodes.new out_rows.new }
 {
     if !record_check::is_one_or_two(nodes, rows) {
-        return Written::Refused(Refusal::MalformedRecord);
+        return Err(Refusal::MalformedRecord);
     }
     let own = record_extent::measure(nodes, 0, 1);
     let second = second_rows(nodes, own.nodes * Encoding::NODE_WIDTH);

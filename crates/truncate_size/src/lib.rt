@@ -34,8 +34,8 @@ pub fn size_after(n: u32, max: u32, stride: u32, own: Extent) -> Extent
         },
         Decision::StrideRefused => own,
         Decision::Windows(count) => Extent {
-            nodes: lists::wide(count),
-            rows: lists::wide(n) + lists::wide(count - 1) * lists::wide(stride),
+            nodes: count as usize,
+            rows: n as usize + (count - 1) as usize * stride as usize,
             levels: 2,
         },
     }

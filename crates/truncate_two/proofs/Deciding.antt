@@ -1,5 +1,6 @@
 -- What becomes of two encodings that are to be cut: each refusal, and the result.
 -- Assumes nothing.
+use Rattle.std.specs.Prelude.{Ok}
 use mathlib.Core.Path.{◌≡◌, sym, ap, ap₂, ◌∙◌}
 use mathlib.Core.Bool.{Bool, true, false, ◌||◌, cond}
 use Prim.Native.Nat.{ℕ, ◌*◌}
@@ -11,7 +12,6 @@ use Rattle.record.specs.Flat.{row_width, node_width}
 use Rattle.record.specs.Standing.{Here, Put}
 use Rattle.record.specs.Outcome.{refused, done, in_room, Writes}
 use Rattle.record.specs.declared.Refusal.TheVariants.{NoRoom, Stride}
-use Rattle.record.specs.declared.Written.TheVariants.{Done}
 use Rattle.record.proofs.Flat.{length_nodes, length_rows}
 use Rattle.record.proofs.Here.{here_size}
 use Rattle.record.proofs.Outcome.{writes_done}
@@ -107,7 +107,7 @@ module _ {nodes rows : List ℕ} {own other kept : Extent} {n m stride : ℕ} {E
           rows_fit = omega (arith, f.1, ap (λ (s : Extent). s.rows) z);
         }
 
-    pub both_writes : {nodes₁ rows₁ : List ℕ} → Put (truncated n stride d E ∷ truncated m stride d F ∷ []) out 0 out' 0 nodes₁ rows₁ → Writes (cut_both_outcome out out' n m stride d E F) (Done size.nodes size.rows) out out' nodes₁ rows₁
+    pub both_writes : {nodes₁ rows₁ : List ℕ} → Put (truncated n stride d E ∷ truncated m stride d F ∷ []) out 0 out' 0 nodes₁ rows₁ → Writes (cut_both_outcome out out' n m stride d E F) (Ok (record { nodes = size.nodes; rows = size.rows })) out out' nodes₁ rows₁
     both_writes p =
         let f = roomy_fits size (length out) (length out') r in
         let g = t.here.well.fine in
@@ -116,6 +116,6 @@ module _ {nodes rows : List ℕ} {own other kept : Extent} {n m stride : ℕ} {E
         writes_done result (outcome_room ∙ ap (λ (b : Bool). cond b (done result) (refused NoRoom)) r)
         (omega (arith, f.0, ap (λ (s : Extent). s.nodes) result_size, length_nodes result (a.0, a.1, (b.0, b.1, tt))))
         (omega (arith, f.1, ap (λ (s : Extent). s.rows) result_size, length_rows result))
-        (ap (λ (s : Extent). Done s.nodes s.rows) (sym result_size))
+        (ap (λ (s : Extent). Ok (record { nodes = s.nodes; rows = s.rows })) (sym result_size))
         p.nodes_put
         p.rows_put

@@ -1,6 +1,7 @@
 -- What the functions ask and give that cut two encodings.
 -- Assumes nothing: these are definitions.
-use Rattle.std.specs.Prelude.{◌≡◌, ℕ, ◌+◌, ◌*◌, ◌≤◌, max, List, [], ◌∷◌}
+use Rattle.record.specs.declared.Refusal.{Refusal}
+use Rattle.std.specs.Prelude.{◌≡◌, ℕ, ◌+◌, ◌*◌, ◌≤◌, max, List, [], ◌∷◌, Result}
 use Rattle.std.proofs.Math.Option.{some}
 use Rattle.record.specs.Tree.{Encoding, forest}
 use Rattle.record.specs.WellFormed.{most_rows}
@@ -32,5 +33,5 @@ abbrev pub AskPair : List ℕ → List ℕ → Extent → Type 0
 AskPair nodes rows own = (E : Encoding) × (F : Encoding) × Pair nodes rows own E F
 
 -- whatever two they store: what `outcome` says of them became of the output
-abbrev pub BecomesPair : (Encoding → Encoding → Outcome) → List ℕ → List ℕ → Extent → Written → List ℕ → List ℕ → List ℕ → List ℕ → Type 0
+abbrev pub BecomesPair : (Encoding → Encoding → Outcome) → List ℕ → List ℕ → Extent → Result Written Refusal → List ℕ → List ℕ → List ℕ → List ℕ → Type 0
 BecomesPair outcome nodes rows own answer nodes₀ rows₀ nodes₁ rows₁ = (E F : Encoding) → Pair nodes rows own E F → Writes (outcome E F) answer nodes₀ rows₀ nodes₁ rows₁

@@ -20,7 +20,7 @@ pub fn cut_two(
     direction: Direction,
     out_nodes: &mut [u32],
     out_rows: &mut [u32],
-) -> Written
+) -> Result<Written, Refusal>
     requires { AskPair nodes.now rows.now own }
     ensures { BecomesPair (cut_both_outcome out_nodes.old out_rows.old n m stride direction)
         nodes.now rows.now own result out_nodes.old out_rows.old
@@ -30,24 +30,24 @@ pub fn cut_two(
     let first = nodes[0];
     let second = nodes[i];
     if truncate_size::stride_refused(first, n, stride) {
-        return Written::Refused(Refusal::Stride);
+        return Err(Refusal::Stride);
     }
     if truncate_size::stride_refused(second, m, stride) {
-        return Written::Refused(Refusal::Stride);
+        return Err(Refusal::Stride);
     }
     let other = record_extent::measure(nodes, i, 1);
     let kept = truncate_size::size_after(first, n, stride, own);
     let size = both(kept, truncate_size::size_after(second, m, stride, other));
     if !record_extent::has_room(size, out_nodes.len(), out_rows.len()) {
-        return Written::Refused(Refusal::NoRoom);
+        return Err(Refusal::NoRoom);
     }
     truncate_both::write_two(
         nodes, rows, own, other, kept, n, m, stride, direction, out_nodes, out_rows,
     );
-    Written::Done {
+    Ok(Written {
         nodes: size.nodes,
         rows: size.rows,
-    }
+    })
 }
 
 // How much two encodings hold together.
@@ -58,6 +58,6 @@ fn both(first: Extent, second: Extent) -> Extent
     Extent {
         nodes: first.nodes + second.nodes,
         rows: first.rows + second.rows,
-        levels: lists::larger(first.levels, second.levels),
+        levels: first.levels.max(second.levels),
     }
 }

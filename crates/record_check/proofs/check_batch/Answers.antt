@@ -1,4 +1,5 @@
 -- `check_batch` answers what `read` reads: what the passes test, number by number, is what well-formed says. Assumes nothing.
+use mathlib.Core.Path.{◌∙◌}
 use native.Mathlib.Omega.{arith}
 use Rattle.record_fields.specs.Promises.{RowsFine}
 use Rattle.record_fields.proofs.Decides.{decided, refuted}
@@ -14,7 +15,7 @@ returns-then-rows-gt-MOST_ROW_NUMBERS c = refuses _ _ (λ f s. omega (arith, few
 pub returns-then-rows_ok : goal.returns-then-rows_ok
 returns-then-rows_ok c =
     let v = c.args in
-    answers v.nodes.now v.rows.now c.check_nodes.result c.check_nodes.ensures
+    c.ok_or.ensures.value ∙ answers v.nodes.now v.rows.now _ c.check_nodes.ensures
     (decided c.rows_ok.result (RowsFine v.rows.now) c.if-rows_ok.true c.rows_ok.ensures)
     (omega arith) (omega arith)
 

@@ -33,10 +33,10 @@ Then-w-gt0 = Lts.Then6 tie.the-claims Reads.Pre Reads.Post goal.the-invariant-lo
 
 -- ---- The places that others look back to
 abbrev joined1 : After-shared_slice_known-in-loop-depth-2-1 → Joined-depth-eq0
-joined1 c = c.before.before.before.before.before
+joined1 c = c.before.before.before.before
 
 abbrev else5 : Then-w-gt0 → Else-not-node_fits
-else5 c = c.before.before.before.before
+else5 c = c.before.before.before
 
 abbrev Nodes : At-loop-depth → List ℕ
 Nodes c = c.args.nodes.now
@@ -84,13 +84,13 @@ pub bounds-nodes-i : goal.bounds-nodes-i
 bounds-nodes-i c = omega (arith, (fits c.before.before).whole)
 
 pub overflow_mul-j : goal.overflow_mul-j
-overflow_mul-j c = omega (arith, c.wide.ensures, c.shared_slice_known-in-loop-depth-1.given c.loop-depth.i)
+overflow_mul-j c = omega (arith, c.shared_slice_known-in-loop-depth-1.given c.loop-depth.i)
 
 pub overflow_add-j : goal.overflow_add-j
-overflow_add-j c = omega (arith, c.wide.ensures, (fits c.before.before.before).rows)
+overflow_add-j c = omega (arith, (fits c.before.before).rows)
 
 pub bounds-nodes-i-in-loop-depth : goal.bounds-nodes-i-in-loop-depth
-bounds-nodes-i-in-loop-depth c = omega (arith, (fits c.before.before.before.before).whole)
+bounds-nodes-i-in-loop-depth c = omega (arith, (fits c.before.before.before).whole)
 
 pub returns-then-depth-eq-MOST_LEVELS : goal.returns-then-depth-eq-MOST_LEVELS
 returns-then-depth-eq-MOST_LEVELS c =
@@ -104,13 +104,13 @@ pub loop-depth-preserved-then-w-gt0 : goal.loop-depth-preserved-then-w-gt0
 loop-depth-preserved-then-w-gt0 c =
     let d = joined1 c.before.before.before in
     let w = c.before.before.before.before in
-    due_push d.loop-depth.invariant (due d) (fits w.before.before) _ w.wide.ensures (omega arith)
+    due_push d.loop-depth.invariant (due d) (fits w.before) _ refl (omega arith)
 
 pub loop-depth-smaller : goal.loop-depth-smaller
-loop-depth-smaller c = omega (arith, (fits c.before.before.before.before.before).whole)
+loop-depth-smaller c = omega (arith, (fits c.before.before.before.before).whole)
 
 pub loop-depth-preserved : goal.loop-depth-preserved
 loop-depth-preserved c =
     let d = joined1 c.before.before in
     let w = c.before.before.before in
-    due_skip d.loop-depth.invariant (due d) (fits w.before.before) _ w.wide.ensures c.if-w-gt0.false
+    due_skip d.loop-depth.invariant (due d) (fits w.before) _ refl c.if-w-gt0.false

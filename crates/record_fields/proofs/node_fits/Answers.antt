@@ -7,17 +7,11 @@ use Rattle.record_fields.proofs.node_fits.Goals as goal
 pub returns-then-nodes-i-lt-NODE_WIDTH : goal.returns-then-nodes-i-lt-NODE_WIDTH
 returns-then-nodes-i-lt-NODE_WIDTH c = λ f. omega (arith, f.whole, c.if-nodes-i-lt-NODE_WIDTH.true)
 
-pub wide-requires : goal.wide-requires
-wide-requires c = tt
-
-pub overflow_mul-wide : goal.overflow_mul-wide
-overflow_mul-wide c = omega (arith, c.wide.ensures, c.shared_slice_known-2-1.given c.args.i)
-
-pub returns-then-room-wide : goal.returns-then-room-wide
-returns-then-room-wide c = λ f. omega (arith, f.rows, c.wide.ensures, c.if-room-wide.true)
+pub returns-then-room-nodes : goal.returns-then-room-nodes
+returns-then-room-nodes c = λ f. omega (arith, f.rows, c.if-room-nodes.true)
 
 pub returns : goal.returns
 returns c =
     let args = c.args in
-    let fits : RangesOk args.nodes.now args.i → NodeFits args.nodes.now args.i args.room = λ n. record { whole = omega arith; rows = omega (arith, c.wide.ensures, c.if-room-wide.false); fine = n } in
+    let fits : RangesOk args.nodes.now args.i → NodeFits args.nodes.now args.i args.room = λ n. record { whole = omega arith; rows = omega (arith, c.if-room-nodes.false); fine = n } in
     decides_also c.node_ok.result fits (λ f. f.fine) c.node_ok.ensures

@@ -14,7 +14,7 @@ loop-i-preserved c =
     let more = judged_more c.loop-i.invariant.2 c.loop-i.invariant.1 (omega (arith, known (at + 2))) (omega (arith, known (at + 5))) c.marked_word-word.ensures c.lowest_bit-lowest.ensures in (
       omega arith,
       omega arith,
-      subst (λ (p : ℕ). Judged c.args.rows.now (c.loop-i.i + 1) (bit_or (bit_or c.loop-i.marks p) c.marked_word-word.result) (bit_or c.loop-i.lowest c.lowest_bit-lowest.result)) (sym c.wide.ensures) more,
+      more,
     )
 
 pub returns-then-lowest-le1 : goal.returns-then-lowest-le1
