@@ -6,7 +6,7 @@ use mathlib.Core.List.{List, []}
 use lib.ListN.{length, get_or, drop}
 use borrow.Author.Tests.{le-leb, lt-leb}
 use native.Mathlib.Omega.{arith}
-use Rattle.lines.specs.declared.Number.TheVariants.{Bad, Read}
+use Rattle.std.specs.Prelude.{Some, None}
 use Rattle.lines.specs.Decimal.{zero_byte, nine_byte, most_digits, largest_u32, both, digits_of, decimal, decimal_after, read_of, number_at}
 use Rattle.lines.proofs.Digits.{digits_more, decimal_at_least}
 
@@ -26,11 +26,11 @@ both_false true = refl
 both_false false = refl
 
 -- so many digits are no number
-too_many : (at count value : ℕ) → most_digits < count → Bad ≡ read_of at count value
+too_many : (at count value : ℕ) → most_digits < count → None ≡ read_of at count value
 too_many at count value many = rw (lt-leb count most_digits many, both_false)
 
 -- a value so large is no number
-too_large : (at count value : ℕ) → largest_u32 < value → Bad ≡ read_of at count value
+too_large : (at count value : ℕ) → largest_u32 < value → None ≡ read_of at count value
 too_large at count value large = rw (lt-leb value largest_u32 large, both_false, both_false)
 
 -- A digit stands at i.
@@ -50,11 +50,11 @@ module _ (bytes : List ℕ) (at i value : ℕ) (r : Reading bytes at i value) (i
   pub more : i < at + most_digits → next ≤ largest_u32 → Reading bytes at (i + 1) next
   more room fits = record { after = omega arith; few = omega arith; small = fits; count = one_more; whole = whole_next }
 
-  pub ends_too_many : i - at ≡ most_digits → Bad ≡ number_at bytes at
+  pub ends_too_many : i - at ≡ most_digits → None ≡ number_at bytes at
   ends_too_many full =
       too_many at (length (digits_of (drop at bytes))) (decimal (digits_of (drop at bytes))) (omega (arith, one_more))
 
-  pub ends_too_large : largest_u32 < next → Bad ≡ number_at bytes at
+  pub ends_too_large : largest_u32 < next → None ≡ number_at bytes at
   ends_too_large large =
       too_large at (length (digits_of (drop at bytes))) (decimal (digits_of (drop at bytes))) (omega (arith, whole_next, decimal_at_least next (digits_of (drop (i + 1) bytes))))
 
@@ -67,12 +67,12 @@ module _ (bytes : List ℕ) (at i value : ℕ) (r : Reading bytes at i value) (s
   unfolding decimal_after
   value_is = r.whole ∙ rw stop
 
-  pub ends_without : i ≡ at → Bad ≡ number_at bytes at
+  pub ends_without : i ≡ at → None ≡ number_at bytes at
   ends_without same =
       let none : length (digits_of (drop at bytes)) ≡ 0 = omega (arith, count_is) in
       rw none
 
-  pub ends_with : (i ≡ at → ⊥) → Read value i ≡ number_at bytes at
+  pub ends_with : (i ≡ at → ⊥) → Some (record { value = value; next = i }) ≡ number_at bytes at
   ends_with some =
       let place : at + (i - at) ≡ i = omega (arith, r.after) in
       rw (count_is, value_is, le-leb 1 (i - at) (omega (arith, r.after)), le-leb (i - at) most_digits (omega (arith, r.few)), le-leb value largest_u32 r.small, place)

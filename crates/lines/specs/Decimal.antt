@@ -1,7 +1,6 @@
 -- What reading a decimal number means: "decimal numbers of 1 to 10 digits up to 4,294,967,295". Assumes nothing.
-use Rattle.std.specs.Prelude.{ℕ, ◌+◌, ◌-◌, ◌*◌, Bool, true, false, List, [], ◌∷◌, length, drop, leb}
+use Rattle.std.specs.Prelude.{ℕ, ◌+◌, ◌-◌, ◌*◌, Bool, true, false, List, [], ◌∷◌, length, drop, leb, Option, Some, None}
 use Rattle.lines.specs.declared.Number.{Number}
-use Rattle.lines.specs.declared.Number.TheVariants.{Bad, Read}
 
 -- the bytes of the digits 0 and 9
 abbrev pub zero_byte : ℕ
@@ -43,7 +42,7 @@ unfoldable pub digits_of : List ℕ → List ℕ
 digits_of [] = []
 digits_of (byte ∷ bytes) = keep_digit (is_digit byte) byte (digits_of bytes)
 
-abbrev pub pick_number : Bool → Number → Number → Number
+abbrev pub pick_number : Bool → Option Number → Option Number → Option Number
 pick_number true a b = a
 pick_number false a b = b
 
@@ -52,9 +51,9 @@ abbrev pub digits_fit : ℕ → ℕ → Bool
 digits_fit count value = both (leb 1 count) (both (leb count most_digits) (leb value largest_u32))
 
 -- the number of so many digits with this value, at a place, and the place after it
-abbrev pub read_of : ℕ → ℕ → ℕ → Number
-read_of at count value = pick_number (digits_fit count value) (Read value (at + count)) Bad
+abbrev pub read_of : ℕ → ℕ → ℕ → Option Number
+read_of at count value = pick_number (digits_fit count value) (Some (record { value = value; next = at + count })) None
 
 -- the number that the digits at a place are
-abbrev pub number_at : List ℕ → ℕ → Number
+abbrev pub number_at : List ℕ → ℕ → Option Number
 number_at bytes at = read_of at (length (digits_of (drop at bytes))) (decimal (digits_of (drop at bytes)))

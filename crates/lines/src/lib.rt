@@ -14,19 +14,20 @@ const MOST_DIGITS: usize = 10;
 
 const LARGEST: u64 = 4_294_967_295;
 
+// A number that was read, and the place after its last digit.
 #[derive(Clone, Copy)]
-pub enum Number {
-    Bad,
-    // The value, and the place after the last digit.
-    Read { value: u32, next: usize },
+pub struct Number {
+    pub value: u32,
+    pub next: usize,
 }
 
 // The number that starts at a place: all the digits from there up to the first byte that is none, or the end.
-pub fn read_number(bytes: &[u8], at: usize) -> Number
+pub fn read_number(bytes: &[u8], at: usize) -> Option<Number>
     ensures { result ≡ number_at bytes.now at }
 {
     let mut i = at;
     let mut value: u64 = 0;
+    // A while: the answer tells where it stops, which a range forgets.
     while i < bytes.len() {
         let byte = bytes[i];
         if byte < ZERO {
@@ -36,29 +37,22 @@ pub fn read_number(bytes: &[u8], at: usize) -> Number
             break;
         }
         if i - at == MOST_DIGITS {
-            return Number::Bad;
+            return None;
         }
-        value = value * 10 + wide(byte - ZERO);
+        value = value * 10 + (byte - ZERO) as u64;
         // A further digit never makes a number smaller, so this one stays too large.
         if value > LARGEST {
-            return Number::Bad;
+            return None;
         }
         i += 1;
     }
     if i == at {
-        return Number::Bad;
+        return None;
     }
-    Number::Read {
+    Some(Number {
         value: value as u32,
         next: i,
-    }
-}
-
-// A byte as a number to count with.
-pub fn wide(digit: u8) -> u64
-    ensures { result ≡ digit }
-{
-    digit as u64
+    })
 }
 
 // One more byte of a line of which `held` bytes came before. Bytes past the buffer's end are not kept:

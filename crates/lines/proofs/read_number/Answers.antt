@@ -1,9 +1,7 @@
 -- `lines::read_number` meets its contract. The loop's invariant, `Reading`: the digits passed have the value, and the rest are
 -- those from here on. The measure is what is left of the bytes. Assumes nothing.
-use Prim.Native.Nat.{◌-◌}
 use mathlib.Core.Path.{◌≡◌}
 use mathlib.Core.List.{[]}
-use mathlib.Core.Logic.{⊎_elim}
 use lib.ListN.{drop}
 use Rattle.lines.specs.Decimal.{digits_of}
 use Rattle.lines.proofs.Digits.{digits_end, digits_below, digits_above}
@@ -12,12 +10,11 @@ use native.Mathlib.Omega.{arith}
 use Rattle.lines.proofs.read_number.Goals as goal
 use Rattle.lines.proofs.read_number.Lts as Lts
 use Rattle.lines.proofs.read_number.Reads as Reads
-use Rattle.lines.proofs.read_number.Tie as tie
 
 -- ---- Places in the code
 
 abbrev Left-loop-i : Type 0
-Left-loop-i = Lts.Left-loop tie.the-claims Reads.Pre Reads.Post goal.the-invariant-loop-i goal.the-decreases-loop-i
+Left-loop-i = Lts.Left-loop Reads.Pre Reads.Post goal.the-invariant-loop-i goal.the-decreases-loop-i
 
 pub loop-i-init : goal.loop-i-init
 loop-i-init c = start _ _
@@ -29,14 +26,13 @@ returns-then-i-at-eq-MOST_DIGITS c =
 pub returns-then-value-gt-LARGEST : goal.returns-then-value-gt-LARGEST
 returns-then-value-gt-LARGEST c =
     ends_too_large _ _ _ _ c.loop-i.invariant c.loop-i-test.true c.if-byte-lt-ZERO.false c.if-byte-gt-NINE.false
-    (omega (arith, c.wide.ensures))
+    (omega arith)
 
 pub loop-i-preserved : goal.loop-i-preserved
 loop-i-preserved c =
-    rw c.wide.ensures
     (more _ _ _ _ c.loop-i.invariant c.loop-i-test.true c.if-byte-lt-ZERO.false c.if-byte-gt-NINE.false
     (omega arith)
-    (omega (arith, c.wide.ensures)))
+    (omega arith))
 
 -- however the loop is left, no digit stands where it stopped
 stops : (c : Left-loop-i) → digits_of (drop c.loop-i.i c.args.bytes.now) ≡ []
