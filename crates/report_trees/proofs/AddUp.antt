@@ -2,7 +2,7 @@
 -- Assumes nothing.
 use mathlib.Core.Path.{◌≡◌, refl, sym, subst, ◌∙◌}
 use mathlib.Core.Bool.{Bool, true, false, ◌&&◌, not, cond}
-use Prim.Native.Nat.{ℕ, ◌+◌}
+use Prim.Native.Nat.{◌+◌}
 use native.Mathlib.Omega.{arith}
 use mathlib.Core.List.{List, [], ◌∷◌}
 use lib.Dec.{eqb}
@@ -15,7 +15,7 @@ use Rattle.record.specs.declared.Refusal.TheVariants.{TotalTooLarge}
 use Rattle.report_trees.specs.Counts.{one, how_many, is_padding, is_special, is_rest}
 use Rattle.report_trees.specs.Report.{counted, summed, within_totals, totalled, add_answer, Begun, begun_empty, begun_more, KindsAddUp}
 use Rattle.report_trees.specs.declared.Report.{Report}
-use Rattle.report_trees.specs.declared.Added.TheVariants.{Refused, Done}
+use Rattle.std.specs.Prelude.{Ok, Err}
 
 -- a row is of just one kind
 kind_of_one : (a s : Bool) → one a + (one (not a && not s) + one (not a && s)) ≡ 1
@@ -38,18 +38,18 @@ pub kinds_summed : (r s : Report) → KindsAddUp r → KindsAddUp s → KindsAdd
 kinds_summed r s p q = omega (arith, p, q)
 
 -- what is not refused is the sum
-pub totalled_is : (t : Report) {s : Report} → totalled t ≡ Done s → s ≡ t
+pub totalled_is : (t : Report) {s : Report} → totalled t ≡ Ok s → s ≡ t
 unfolding totalled
 totalled_is t {s} e = go (within_totals t) e
   where
-    go : (b : Bool) → cond b (Done t) (Refused TotalTooLarge) ≡ Done s → s ≡ t
+    go : (b : Bool) → cond b (Ok t) (Err TotalTooLarge) ≡ Ok s → s ≡ t
     go true e = cc
-    go false e = absurd (let z : ◌≡◌ {A = ℕ} 0 1 = cc in omega arith)
+    go false e = cc
 
 -- and the batch that it was added of was well-formed
-pub added_is : (batch : Reading) (r : Report) {s : Report} → add_answer batch r ≡ Done s → (f : Forest) × (batch ≡ holds f) × (s ≡ summed r (counted f))
+pub added_is : (batch : Reading) (r : Report) {s : Report} → add_answer batch r ≡ Ok s → (f : Forest) × (batch ≡ holds f) × (s ≡ summed r (counted f))
 unfolding add_answer of_any
-added_is malformed r e = absurd (let z : ◌≡◌ {A = ℕ} 0 1 = cc in omega arith)
+added_is malformed r e = absurd (cc)
 added_is (holds f) r e = (f, refl, totalled_is (summed r (counted f)) e)
 
 -- "in every report begun empty the three kinds are shown to add up to the rows"

@@ -9,8 +9,8 @@ use Rattle.record.specs.declared.Refusal.TheVariants.{MalformedRecord, TotalTooL
 use Rattle.report_trees.proofs.Totals.{within_before}
 use Rattle.report_trees.specs.Report.{counted, summed, within_totals, totalled, add_answer, then_added, add_two}
 use Rattle.report_trees.specs.declared.Report.{Report}
-use Rattle.report_trees.specs.declared.Added.{Added}
-use Rattle.report_trees.specs.declared.Added.TheVariants.{Refused, Done}
+use Rattle.record.specs.declared.Refusal.{Refusal}
+use Rattle.std.specs.Prelude.{Result, Ok, Err}
 
 -- ---- One batch after another
 
@@ -20,9 +20,9 @@ unfolding totalled
 totalled_twice r s = go (within_totals r) (within_totals (summed r s)) refl refl
   where
     go : (b c : Bool) → within_totals r ≡ b → within_totals (summed r s) ≡ c
-        → then_added (cond b (Done r) (Refused TotalTooLarge)) (λ t. cond (within_totals (summed t s)) (Done (summed t s)) (Refused TotalTooLarge))
-        ≡ cond c (Done (summed r s)) (Refused TotalTooLarge)
-    go true c p q = ap (λ (x : Bool). cond x (Done (summed r s)) (Refused TotalTooLarge)) q
+        → then_added (cond b (Ok r) (Err TotalTooLarge)) (λ t. cond (within_totals (summed t s)) (Ok (summed t s)) (Err TotalTooLarge))
+        ≡ cond c (Ok (summed r s)) (Err TotalTooLarge)
+    go true c p q = ap (λ (x : Bool). cond x (Ok (summed r s)) (Err TotalTooLarge)) q
     go false true p q = absurd (false≢true (sym p ∙ within_before r s q))
     go false false p q = refl
 
@@ -50,13 +50,13 @@ summed_swap r s t = λ i.
 pub either_order_stored : (f g : Forest) (r : Report) → add_two (holds f) (holds g) r ≡ add_two (holds g) (holds f) r
 either_order_stored f g r = added_twice f g r ∙ ap totalled (summed_swap r (counted f) (counted g)) ∙ sym (added_twice g f r)
 
-never_done : (x : Added) {s : Report} → then_added x (λ t. Refused MalformedRecord) ≡ Done s → ⊥
-never_done (Refused why) e = let z : ◌≡◌ {A = ℕ} 0 1 = cc in omega arith
-never_done (Done t) e = let z : ◌≡◌ {A = ℕ} 0 1 = cc in omega arith
+never_done : (x : Result Report Refusal) {s : Report} → then_added x (λ t. Err MalformedRecord) ≡ Ok s → ⊥
+never_done (Err why) e = cc
+never_done (Ok t) e = cc
 
 -- "Two batches added in either order give the same report, provided neither addition is refused"
-pub either_order : (a b : Reading) (r : Report) {s : Report} → add_two a b r ≡ Done s → add_two b a r ≡ Done s
+pub either_order : (a b : Reading) (r : Report) {s : Report} → add_two a b r ≡ Ok s → add_two b a r ≡ Ok s
 unfolding add_answer of_any
-either_order malformed b r e = absurd (let z : ◌≡◌ {A = ℕ} 0 1 = cc in omega arith)
+either_order malformed b r e = cc
 either_order (holds f) malformed r e = absurd (never_done (totalled (summed r (counted f))) e)
 either_order (holds f) (holds g) r e = either_order_stored g f r ∙ e

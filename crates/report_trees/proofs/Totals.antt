@@ -9,7 +9,7 @@ use Rattle.record.proofs.WellFormed.{Tells, tells_le, tells_and, tells_as, tells
 use Rattle.record.specs.declared.Refusal.TheVariants.{TotalTooLarge}
 use Rattle.report_trees.specs.Report.{summed, largest_total, within_totals, totalled}
 use Rattle.report_trees.specs.declared.Report.{Report}
-use Rattle.report_trees.specs.declared.Added.TheVariants.{Refused, Done}
+use Rattle.std.specs.Prelude.{Ok, Err}
 
 abbrev pub Within : Report → Type 0
 Within r =
@@ -24,15 +24,15 @@ tells_within r =
 pub within_before : (r s : Report) → within_totals (summed r s) ≡ true → within_totals r ≡ true
 within_before r s e = let w : Within (summed r s) = (tells_within (summed r s)).so e in (tells_within r).back (omega (arith, w))
 
-pub totals_fit : (r : Report) → Within r → Done r ≡ totalled r
+pub totals_fit : (r : Report) → Within r → Ok r ≡ totalled r
 unfolding totalled
 totals_fit r w = rw ((tells_within r).back w)
 
-pub totals_too_large : (r : Report) → (Within r → ⊥) → Refused TotalTooLarge ≡ totalled r
+pub totals_too_large : (r : Report) → (Within r → ⊥) → Err TotalTooLarge ≡ totalled r
 unfolding totalled
 totals_too_large r n = go (within_totals r) refl
   where
-    go : (b : Bool) → within_totals r ≡ b → Refused TotalTooLarge ≡ cond b (Done r) (Refused TotalTooLarge)
+    go : (b : Bool) → within_totals r ≡ b → Err TotalTooLarge ≡ cond b (Ok r) (Err TotalTooLarge)
     go true e = absurd (n ((tells_within r).so e))
     go false e = refl
 

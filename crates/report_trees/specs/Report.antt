@@ -1,16 +1,15 @@
 -- A report, a batch added to it, and what is to hold of reports (document 02, request 03).
 -- Assumes nothing: these are definitions.
-use Rattle.std.specs.Prelude.{◌≡◌, Bool, ◌&&◌, cond, List, ℕ, ◌+◌, leb}
+use Rattle.std.specs.Prelude.{◌≡◌, Bool, ◌&&◌, cond, List, ℕ, ◌+◌, leb, Result, Ok, Err}
 use Rattle.fractions.specs.Fractions.{lowest_of}
 use Rattle.fractions.specs.declared.Fraction.{Fraction}
 use Rattle.record.specs.Tree.{Forest, tops}
 use Rattle.record.specs.WellFormed.{rows_in}
 use Rattle.record.specs.Read.{Reading, read, of_any}
+use Rattle.record.specs.declared.Refusal.{Refusal}
 use Rattle.record.specs.declared.Refusal.TheVariants.{MalformedRecord, TotalTooLarge}
 use Rattle.report_trees.specs.Counts.{windows_in, padding_in, special_in, rest_in}
 use Rattle.report_trees.specs.declared.Report.{Report}
-use Rattle.report_trees.specs.declared.Added.{Added}
-use Rattle.report_trees.specs.declared.Added.TheVariants.{Refused, Done}
 
 abbrev pub empty_report : Report
 empty_report = record { encodings = 0; windows = 0; rows = 0; padding = 0; special = 0; rest = 0 }
@@ -43,26 +42,26 @@ within_totals r =
     && (leb r.rows largest_total && (leb r.padding largest_total && (leb r.special largest_total && leb r.rest largest_total))))
 
 -- "22 if a total would pass 18,446,744,073,709,551,615"
-unfoldable pub totalled : Report → Added
-totalled r = cond (within_totals r) (Done r) (Refused TotalTooLarge)
+unfoldable pub totalled : Report → Result Report Refusal
+totalled r = cond (within_totals r) (Ok r) (Err TotalTooLarge)
 
 -- "Turned away: 1, then 22": a batch added to a report
-unfoldable pub add_answer : Reading → Report → Added
-add_answer batch r = of_any (Refused MalformedRecord) (λ f. totalled (summed r (counted f))) batch
+unfoldable pub add_answer : Reading → Report → Result Report Refusal
+add_answer batch r = of_any (Err MalformedRecord) (λ f. totalled (summed r (counted f))) batch
 
 -- what k says of the report, unless it was refused
-abbrev pub then_added : Added → (Report → Added) → Added
-then_added (Refused why) k = Refused why
-then_added (Done r) k = k r
+abbrev pub then_added : Result Report Refusal → (Report → Result Report Refusal) → Result Report Refusal
+then_added (Err why) k = Err why
+then_added (Ok r) k = k r
 
 -- one batch added, and then another
-abbrev pub add_two : Reading → Reading → Report → Added
+abbrev pub add_two : Reading → Reading → Report → Result Report Refusal
 add_two a b r = then_added (add_answer a r) (add_answer b)
 
 -- "every report begun empty": the empty one, and one to which a batch was added that was not refused
 pub data Begun : Report → Type 0 where
   begun_empty : Begun empty_report
-  begun_more : {r s : Report} (nodes rows : List ℕ) → Begun r → add_answer (read nodes rows) r ≡ Done s → Begun s
+  begun_more : {r s : Report} (nodes rows : List ℕ) → Begun r → add_answer (read nodes rows) r ≡ Ok s → Begun s
 
 -- "the three kinds are shown to add up to the rows"
 abbrev pub KindsAddUp : Report → Type 0

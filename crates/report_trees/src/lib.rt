@@ -1,10 +1,8 @@
-// One report over many batches (document 02, request 03): its six totals, and what adding a batch answers.
+// One report over many batches (document 02, request 03): its six totals.
 #![tactic(auto)]
 
 ghost use Rattle.std.specs.Prelude.{◌≡◌};
 ghost use Rattle.report_trees.specs.Report.{empty_report};
-
-use record::Refusal;
 
 // Totals over all batches added: top encodings, windows at every level, the rows of both together; and of the rows those with
 // attention 0, those with attention not 0 and special mask not 0, and the rest.
@@ -32,11 +30,4 @@ impl Report {
             rest: 0,
         }
     }
-}
-
-// What adding a batch to a report answers: refused, or the report with the batch in it.
-#[derive(Clone, Copy)]
-pub enum Added {
-    Refused(Refusal),
-    Done(Report),
 }
