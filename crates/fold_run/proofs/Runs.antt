@@ -24,12 +24,12 @@ module _ {nodes : List ℕ} {i : ℕ} {f : Forest} where
   pub begins_none : NodesToCome nodes i f → BeginsWith nodes i f (sized 0 0)
   begins_none h = record { run = []; rest = f; split = refl; bare = tt; nodes_size = refl; rows_size = refl; coming = subst (λ (k : ℕ). NodesToCome nodes k f) (omega arith) h }
 
-  module _ {n m at : ℕ} (b : BeginsWith nodes i f (sized n m)) (e : at ≡ i + n * node_width) where
-    -- it has no more rows than all
-    pub begins_few : m ≤ rows_in f
-    begins_few = omega (arith, b.rows_size, rows_append b.run (listed b.rest), ap (λ (l : List Encoding). rows_in (forest l)) b.split, ap rows_in (forest_listed f))
+  -- it has no more rows than all
+  pub begins_few : {n m : ℕ} → BeginsWith nodes i f (sized n m) → m ≤ rows_in f
+  begins_few b = omega (arith, b.rows_size, rows_append b.run (listed b.rest), ap (λ (l : List Encoding). rows_in (forest l)) b.split, ap rows_in (forest_listed f))
 
-    -- and the next is there, where nodes are left
+  module _ {n m at : ℕ} (b : BeginsWith nodes i f (sized n m)) (e : at ≡ i + n * node_width) where
+    -- the next is there, where nodes are left
     pub next_stands : at < length nodes → at + node_width ≤ length nodes
     next_stands l = go b.rest b.coming
       where

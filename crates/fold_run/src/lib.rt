@@ -20,6 +20,7 @@ pub fn run_from(nodes: &[u32], i: usize) -> Run
     let mut at = i;
     let mut count: usize = 0;
     let mut rows: usize = 0;
+    // A while: the next node is one node's width on, and a range's step is 1.
     while at < nodes.len() {
         if nodes[at + 1] != 0 {
             return Run { nodes: count, rows };
