@@ -3,14 +3,14 @@
 use mathlib.Core.Path.{◌≡◌, refl, sym, ap, ◌∙◌}
 use mathlib.Core.Logic.{◌⊎◌, inl, inr, ⊎_elim}
 use mathlib.Core.Bool.{Bool, true, false}
-use Prim.Native.Nat.{ℕ, ◌+◌, ◌*◌, ◌≤◌, ◌<◌}
+use Prim.Native.Nat.{ℕ, ◌+◌, ◌*◌, ◌≤◌, ◌<◌, max}
 use native.Mathlib.Numerals.{add-one}
 use native.Mathlib.Omega.{arith}
 use mathlib.Core.List.{List}
 use lib.Dec.{ltb, eqb}
 use lib.ListN.{length, get_or, drop, get_or-eq_default, drop_of_length-le}
 use lib.Seq.{drop-cons}
-use borrow.Author.Tests.{eq-eqb, ne_eqb, ltb-true, ltb-false}
+use borrow.Author.Tests.{eq-eqb, ne_eqb, ltb-true, ltb-false, eqb-true, eqb-false}
 use Rattle.record.specs.Tree.{Range, Encoding, absent, sequences}
 use Rattle.record.specs.Flat.{range_numbers}
 use Rattle.record.specs.WellFormed.{RangeFine}
@@ -88,6 +88,13 @@ count_none E n = rw (eq-eqb (present E.ranges) 0 n)
 pub count_some : (E : Encoding) → (present E.ranges ≡ 0 → ⊥) → n_sequences E ≡ present E.ranges
 unfolding n_sequences
 count_some E n = rw (ne_eqb (present E.ranges) 0 n)
+
+pub count_is : (E : Encoding) → n_sequences E ≡ max (present E.ranges) 1
+count_is E = go (eqb (present E.ranges) 0) refl
+  where
+    go : (b : Bool) → eqb (present E.ranges) 0 ≡ b → n_sequences E ≡ max (present E.ranges) 1
+    go true b = let none = eqb-true (present E.ranges) 0 b in omega (arith, count_none E none)
+    go false b = let some = eqb-false (present E.ranges) 0 b in omega (arith, count_some E some)
 
 -- ---- The rows of a sequence are rows of the encoding
 

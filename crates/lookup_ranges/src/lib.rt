@@ -38,12 +38,10 @@ pub fn present_of(nodes: &[u32]) -> u32
     ensures { OfTop nodes.now (λ E. result ≡ present E.ranges) }
 {
     let mut n: u32 = 0;
-    let mut k: usize = 0;
-    while k < Encoding::SEQUENCES {
+    for k in 0..Encoding::SEQUENCES {
         if nodes[Encoding::RANGES + k * Encoding::RANGE_WIDTH] == 1 {
             n += 1;
         }
-        k += 1;
     }
     n
 }
@@ -53,11 +51,7 @@ pub fn count_of(nodes: &[u32]) -> u32
     requires { node_width ≤ length nodes.now }
     ensures { OfTop nodes.now (λ E. result ≡ n_sequences E) }
 {
-    let n = present_of(nodes);
-    if n == 0 {
-        return 1;
-    }
-    n
+    present_of(nodes).max(1)
 }
 
 // ---- The sequence column
@@ -70,10 +64,8 @@ pub fn mark_ranges(nodes: &[u32], out: &mut [u32])
         out.new ≡ get_sequence_ids E ++ rest) }
 {
     let n = count_of(nodes);
-    let mut k: u32 = 0;
-    while k < n {
+    for k in 0..n {
         mark(out, range_of(nodes, k), k);
-        k += 1;
     }
 }
 
@@ -82,11 +74,8 @@ pub fn mark(out: &mut [u32], rows: Bounds, id: u32)
     requires { (rows.start ≤ rows.end) × (2 * rows.end ≤ length out.old) }
     ensures { Marks rows id out.old out.new }
 {
-    let end = rows.end as usize;
-    let mut i = rows.start as usize;
-    while i < end {
+    for i in rows.start as usize..rows.end as usize {
         out[2 * i] = 1;
         out[2 * i + 1] = id;
-        i += 1;
     }
 }

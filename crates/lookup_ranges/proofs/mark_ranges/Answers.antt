@@ -1,5 +1,5 @@
 -- `mark_ranges` marks one sequence after another: after k turns, those with an id below k. Assumes nothing.
-use mathlib.Core.Path.{◌≡◌, refl, sym, ap, ◌∙◌, subst}
+use mathlib.Core.Path.{◌≡◌, sym, ap, ◌∙◌, subst}
 use Prim.Native.Nat.{◌*◌, ◌≤◌}
 use mathlib.Core.List.{◌++◌}
 use lib.ListN.{length}
@@ -8,50 +8,30 @@ use Rattle.record.specs.declared.Bounds.{Bounds}
 use Rattle.lookup_ranges.specs.Ranges.{n_sequences}
 use Rattle.lookup_ranges.proofs.Ranges.{range_within}
 use Rattle.lookup_ranges.proofs.Marking.{column_start, marks_sequence, column_all}
-use borrow.Author.Rules.{rules}
 use native.Mathlib.Omega.{arith}
 use Rattle.lookup_ranges.proofs.mark_ranges.Goals as goal
-use Rattle.lookup_ranges.proofs.mark_ranges.Lts as Lts
-use Rattle.lookup_ranges.proofs.mark_ranges.Reads as Reads
-use Rattle.lookup_ranges.proofs.mark_ranges.Tie as tie
-
--- ---- Places in the code
-
-abbrev At-loop-k : Type 0
-At-loop-k = Lts.At-loop tie.the-claims Reads.Pre Reads.Post goal.the-invariant-loop-k goal.the-decreases-loop-k
-
-abbrev Start : Type 0
-Start = Lts.Start tie.the-claims Reads.Pre Reads.Post goal.the-invariant-loop-k goal.the-decreases-loop-k
-
--- ---- The places that others look back to
-abbrev the-start : At-loop-k → Start
-the-start c = c.before.before.before.before
 
 pub count_of-n-requires : goal.count_of-n-requires
 count_of-n-requires c = one_nodes_long c.requires.is
 
 pub loop-k-init : goal.loop-k-init
-loop-k-init c = (search rules, refl, λ rows E h rest e. e ∙ ap (◌++ rest) (sym (column_start E)))
+loop-k-init c = λ rows E h rest e. e ∙ ap (◌++ rest) (sym (column_start E))
 
 pub range_of-requires : goal.range_of-requires
-range_of-requires c = one_nodes_long (the-start c.before.before.before).requires.is
+range_of-requires c = one_nodes_long c.requires.is
 
 pub mark-requires : goal.mark-requires
 mark-requires c =
     let pre = c.requires in
     let within = range_within pre.is c.loop-k.k in
     subst (λ (b : Bounds). (b.start ≤ b.end) × (2 * b.end ≤ length c.loop-k.out)) (sym (c.range_of.ensures pre.rows pre.tree pre.is))
-    (within.0, omega (arith, within.1, pre.fits, c.loop-k.invariant.1))
+    (within.0, omega (arith, within.1, pre.fits))
 
 pub loop-k-preserved : goal.loop-k-preserved
-loop-k-preserved c = (
-  search rules,
-  search rules,
-  λ rows E h rest e.
-      marks_sequence E c.loop-k.k _ _ _ rest (c.range_of.ensures rows E h) (range_within h c.loop-k.k).1 c.mark.ensures (c.loop-k.invariant.2 rows E h rest e),
-)
+loop-k-preserved c = λ rows E h rest e.
+    marks_sequence E c.loop-k.k _ _ _ rest (c.range_of.ensures rows E h) (range_within h c.loop-k.k).1 c.mark.ensures (c.loop-k.invariant rows E h rest e)
 
 pub returns : goal.returns
 returns c = λ rows E h rest e.
     let all : c.loop-k.k ≡ n_sequences E = omega (arith, c.count_of-n.ensures rows E h) in
-    c.loop-k.invariant.2 rows E h rest e ∙ ap (◌++ rest) (column_all E c.loop-k.k all)
+    c.loop-k.invariant rows E h rest e ∙ ap (◌++ rest) (column_all E c.loop-k.k all)

@@ -1,6 +1,6 @@
 -- `mark_ranges` marks one sequence after another: after k turns, those with an id below k. Assumes nothing.
 use mathlib.Core.Path.{◌≡◌}
-use Prim.Native.Nat.{ℕ, ◌-◌, ◌*◌, ◌≤◌}
+use Prim.Native.Nat.{ℕ, ◌*◌}
 use mathlib.Core.List.{List, ◌++◌}
 use lib.ListN.{length, replicate}
 use Rattle.lookup_ranges.specs.Promises.{OfTop}
@@ -8,7 +8,4 @@ use Rattle.lookup_ranges.proofs.Marking.{column_to}
 use Rattle.lookup_ranges.proofs.mark_ranges.Given as goal
 
 abbrev pub invariant-loop-k : goal.invariant-loop-k
-invariant-loop-k l = (l.k ≤ l.n) × (length l.out ≡ length l.initial.out) × OfTop l.nodes (λ E. (rest : List ℕ) → l.initial.out ≡ replicate (2 * length E.rows) 0 ++ rest → l.out ≡ column_to E l.k ++ rest)
-
-abbrev pub decreases-loop-k : goal.decreases-loop-k
-decreases-loop-k l = l.n - l.k
+invariant-loop-k l = OfTop l.nodes (λ E. (rest : List ℕ) → l.initial.out ≡ replicate (2 * length E.rows) 0 ++ rest → l.out ≡ column_to E l.k ++ rest)

@@ -1,25 +1,15 @@
 -- `present_of` counts the ranges: after k turns, those before place k. Assumes nothing.
-use native.Mathlib.Nat.{zero-add}
 use Rattle.lookup_ranges.proofs.Ranges.{present_more, present_same, present_end}
-use borrow.Author.Rules.{rules}
 use native.Mathlib.Omega.{arith}
 use Rattle.lookup_ranges.proofs.present_of.Goals as goal
 use Rattle.lookup_ranges.proofs.present_of.Goals.{then-nodes-k-eq1, else-nodes-k-eq1}
 
-pub loop-k-init : goal.loop-k-init
-loop-k-init c = (search rules, search rules, λ rows E h. zero-add _)
-
 pub loop-k-preserved : goal.loop-k-preserved
 loop-k-preserved c =
-    let b = c.loop-k-test.true in (
-      search rules,
-      elim c.if-nodes-k-eq1.branch [ then-nodes-k-eq1 w ↦ omega arith | else-nodes-k-eq1 w ↦ omega arith ],
-      λ rows E h.
-          elim c.if-nodes-k-eq1.branch [
-            | then-nodes-k-eq1 w ↦ omega (arith, c.loop-k.invariant.2 rows E h, present_more h c.loop-k.k b w.if-nodes-k-eq1.true)
-            | else-nodes-k-eq1 w ↦ omega (arith, c.loop-k.invariant.2 rows E h, present_same h c.loop-k.k b w.if-nodes-k-eq1.false)
-          ],
-    )
+    elim c.if-nodes-k-eq1.branch [
+      | then-nodes-k-eq1 w ↦ (omega arith, λ rows E h. omega (arith, c.loop-k.invariant.1 rows E h, present_more h c.loop-k.k c.loop-k-test.true w.if-nodes-k-eq1.true))
+      | else-nodes-k-eq1 w ↦ (omega arith, λ rows E h. omega (arith, c.loop-k.invariant.1 rows E h, present_same h c.loop-k.k c.loop-k-test.true w.if-nodes-k-eq1.false))
+    ]
 
 pub returns : goal.returns
-returns c = λ rows E h. omega (arith, c.loop-k.invariant.2 rows E h, present_end h c.loop-k.k c.loop-k-test.false)
+returns c = λ rows E h. omega (arith, c.loop-k.invariant.1 rows E h, present_end h c.loop-k.k c.loop-k-test.false)
