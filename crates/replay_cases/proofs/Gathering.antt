@@ -9,7 +9,7 @@ use borrow.Author.Tests.{le-leb, lt-leb, eq-eqb, ne_eqb}
 use native.Mathlib.Numerals.{add-one}
 use native.Mathlib.Omega.{arith}
 use Rattle.lines.specs.Decimal.{number_at}
-use Rattle.lines.specs.declared.Number.TheVariants.{Bad, Read}
+use Rattle.std.specs.Prelude.{Some, None}
 use Rattle.lines.proofs.Moves.{number_moves}
 use Rattle.replay_cases.specs.Case.{Case, unreadable, numbers, separator, led_case, rest, case_from, case_of, fitted}
 use Rattle.replay_cases.specs.Promises.{GatheredCase}
@@ -51,17 +51,17 @@ pub refused : (line : List ℕ) (room : ℕ) (stored : List ℕ) → unreadable 
     → GatheredCase line room (record { good = false; count = 0 }) stored
 refused line room stored none = record { exact = none; counts = omega arith; whole = refl }
 
-from_bad : (line : List ℕ) (at most : ℕ) → number_at line at ≡ Bad → case_from most line at ≡ unreadable
+from_bad : (line : List ℕ) (at most : ℕ) → number_at line at ≡ None → case_from most line at ≡ unreadable
 unfolding case_from
 from_bad line at zero e = refl
 from_bad line at (suc most) e = rw e
 
-from_some : (line : List ℕ) (at most v next : ℕ) → number_at line at ≡ Read v next
+from_some : (line : List ℕ) (at most v next : ℕ) → number_at line at ≡ Some (record { value = v; next = next })
     → case_from (suc most) line at ≡ led_case v (rest line next (case_from most line))
 unfolding case_from
 from_some line at most v next e = rw e
 
-from_read : (line : List ℕ) (at most v next : ℕ) → 0 < most → number_at line at ≡ Read v next
+from_read : (line : List ℕ) (at most v next : ℕ) → 0 < most → number_at line at ≡ Some (record { value = v; next = next })
     → case_from most line at ≡ led_case v (rest line next (case_from (most - 1) line))
 from_read line at most v next some e =
     let z : most ≡ suc (most - 1) = omega arith in
@@ -74,11 +74,11 @@ too_full ns v (numbers ms) =
     rw (lt-leb (length (ns ++ (v ∷ ms))) (length ns) longer)
 
 module _ (line : List ℕ) (room : ℕ) (stored : List ℕ) (at count : ℕ) (g : Gathering line room stored at count) where
-  pub ends_bad : number_at line at ≡ Bad → unreadable ≡ fitted room (case_of line)
+  pub ends_bad : number_at line at ≡ None → unreadable ≡ fitted room (case_of line)
   ends_bad e = sym (ap (fitted room) (g.whole ∙ ap (joined (take count stored)) (from_bad line at g.most e)))
 
   -- A number was read.
-  module _ (v next : ℕ) (e : number_at line at ≡ Read v next) where
+  module _ (v next : ℕ) (e : number_at line at ≡ Some (record { value = v; next = next })) where
     read : case_of line ≡ joined (take count stored) (led_case v (rest line next (case_from (g.most - 1) line)))
     read = g.whole ∙ ap (joined (take count stored)) (from_read line at g.most v next (omega (arith, g.enough, g.place)) e)
 

@@ -1,9 +1,8 @@
 -- What a stored case is: "decimal u32 numbers separated by single spaces", "each list as its length then its numbers".
 -- Assumes nothing: these are definitions.
-use Rattle.std.specs.Prelude.{ℕ, zero, suc, ◌+◌, ◌-◌, Bool, true, false, List, [], ◌∷◌, length, get_or, take, leb, ltb, eqb}
+use Rattle.std.specs.Prelude.{ℕ, zero, suc, ◌+◌, ◌-◌, Bool, true, false, List, [], ◌∷◌, length, get_or, take, leb, ltb, eqb, Option, Some, None}
 use Rattle.lines.specs.Decimal.{number_at}
 use Rattle.lines.specs.declared.Number.{Number}
-use Rattle.lines.specs.declared.Number.TheVariants.{Bad, Read}
 use Rattle.replay_cases.specs.declared.Numbers.{Numbers}
 use Rattle.replay_cases.specs.declared.Part.{Part}
 
@@ -31,9 +30,9 @@ rest line next case =
     pick_case (leb (length line) next) (numbers [])
     (pick_case (eqb (get_or line next 0) separator) (case (next + 1)) unreadable)
 
-abbrev pub from : List ℕ → Number → (ℕ → Case) → Case
-from line Bad case = unreadable
-from line (Read value next) case = led_case value (rest line next case)
+abbrev pub from : List ℕ → Option Number → (ℕ → Case) → Case
+from line None case = unreadable
+from line (Some n) case = led_case n.value (rest line n.next case)
 
 -- the case that starts at a place, of at most so many numbers
 unfoldable pub case_from : ℕ → List ℕ → ℕ → Case

@@ -26,7 +26,7 @@ pub fn read_numbers(line: &[u8], numbers: &mut [u32]) -> Numbers
     let mut at: usize = 0;
     let mut count: usize = 0;
     loop {
-        let Number::Read { value, next } = lines::read_number(line, at) else {
+        let Some(Number { value, next }) = lines::read_number(line, at) else {
             return Numbers {
                 good: false,
                 count: 0,

@@ -14,19 +14,19 @@ returns-in_default c =
 
 pub returns-then-count-numbers : goal.returns-then-count-numbers
 returns-then-count-numbers c =
-    refused _ _ _ (ends_full _ _ _ _ _ c.loop-value.invariant _ _ (sym c.read_number.ensures ∙ c.in-Read.is) c.if-count-numbers.true)
+    refused _ _ _ (ends_full _ _ _ _ _ c.loop-value.invariant _ _ (sym c.read_number.ensures ∙ c.in-Some.is) c.if-count-numbers.true)
 
 pub returns-then-line-next : goal.returns-then-line-next
 returns-then-line-next c =
-    ends_good _ _ _ _ _ c.loop-value.invariant _ _ (sym c.read_number.ensures ∙ c.in-Read.is) (omega arith) c.if-line-next.true
+    ends_good _ _ _ _ _ c.loop-value.invariant _ _ (sym c.read_number.ensures ∙ c.in-Some.is) (omega arith) c.if-line-next.true
 
 pub returns-then-line-next-ne-SPACE : goal.returns-then-line-next-ne-SPACE
 returns-then-line-next-ne-SPACE c =
-    refused _ _ _ (ends_other _ _ _ _ _ c.loop-value.invariant _ _ (sym c.read_number.ensures ∙ c.in-Read.is) (omega arith) c.if-line-next.false c.if-line-next-ne-SPACE.true)
+    refused _ _ _ (ends_other _ _ _ _ _ c.loop-value.invariant _ _ (sym c.read_number.ensures ∙ c.in-Some.is) (omega arith) c.if-line-next.false c.if-line-next-ne-SPACE.true)
 
 pub loop-value-smaller : goal.loop-value-smaller
-loop-value-smaller c = omega (arith, number_moves c.args.line.now c.loop-value.at c.in-Read.value c.in-Read.next (sym c.read_number.ensures ∙ c.in-Read.is))
+loop-value-smaller c = omega (arith, number_moves c.args.line.now c.loop-value.at c.in-Some.field-0.value c.in-Some.field-0.next (sym c.read_number.ensures ∙ c.in-Some.is))
 
 pub loop-value-preserved : goal.loop-value-preserved
 loop-value-preserved c =
-    goes_on _ _ _ _ _ c.loop-value.invariant _ _ (sym c.read_number.ensures ∙ c.in-Read.is) (omega arith) c.if-line-next.false c.if-line-next-ne-SPACE.false
+    goes_on _ _ _ _ _ c.loop-value.invariant _ _ (sym c.read_number.ensures ∙ c.in-Some.is) (omega arith) c.if-line-next.false c.if-line-next-ne-SPACE.false
