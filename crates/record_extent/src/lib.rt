@@ -35,17 +35,15 @@ pub fn measure(nodes: &[u32], i: usize, tops: u32) -> Extent
     requires { (f : Forest) × Stands nodes.now i tops f }
     ensures { (f : Forest) → Stands nodes.now i tops f → result ≡ size_of f }
 {
-    let mut left = tops;
     let mut passed = Extent {
         nodes: 0,
         rows: 0,
         levels: 0,
     };
-    while left > 0 {
+    for _ in 0..tops {
         let at = i + passed.nodes * Encoding::NODE_WIDTH;
         let below = measure(nodes, at + Encoding::NODE_WIDTH, nodes[at + 1]);
         passed = with_node(passed, nodes[at], below);
-        left -= 1;
     }
     passed
 }
@@ -54,12 +52,9 @@ pub fn measure(nodes: &[u32], i: usize, tops: u32) -> Extent
 fn within(size: Extent) -> bool
     ensures { result ≡ within size }
 {
-    if size.nodes <= Encoding::MOST_NODES {
-        if size.rows <= Encoding::MOST_ROWS {
-            return size.levels <= Encoding::MOST_LEVELS + 1;
-        }
-    }
-    false
+    size.nodes <= Encoding::MOST_NODES
+        && size.rows <= Encoding::MOST_ROWS
+        && size.levels <= Encoding::MOST_LEVELS + 1
 }
 
 // Whether a result that holds this much has room in the limits and in an output of so many numbers.
