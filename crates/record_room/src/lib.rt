@@ -14,14 +14,12 @@ pub struct Size {
     pub rows: usize,
 }
 
-// Whether a result that takes this much has room in an output of so many numbers.
+// Whether a result that takes this much has room in an output of so many numbers. Tested by division, so that no product
+// passes 64 bits.
 pub fn has_room(size: Size, nodes: usize, rows: usize) -> bool
     ensures { result ≡ has_room size nodes rows }
 {
-    if size.fits {
-        if size.nodes <= nodes / Encoding::NODE_WIDTH {
-            return size.rows <= rows / Encoding::ROW_WIDTH;
-        }
-    }
-    false
+    size.fits
+        && size.nodes <= nodes / Encoding::NODE_WIDTH
+        && size.rows <= rows / Encoding::ROW_WIDTH
 }
