@@ -2,7 +2,7 @@
 // Every function answers for all numbers of 32 bits; every start and end is at most the row count, so nothing passes them.
 #![tactic(auto)]
 
-ghost use Rattle.std.specs.Prelude.{◌≡◌, ◌+◌, ◌≤◌, min, length, get_or};
+ghost use Rattle.std.specs.Prelude.{◌≡◌, length, get_or};
 ghost use Rattle.cut_plan.specs.Cut.{windows_of, bounds, decision_of};
 
 use record::Bounds;
@@ -15,7 +15,7 @@ pub enum Direction {
 }
 
 // What becomes of an encoding: nothing is cut; nothing is kept; the stride is refused; or this many windows, the kept
-// one counted.
+// one counted. No `Result`: most callers have refused the stride before, and all tell the four apart in one `match`.
 #[derive(Clone, Copy)]
 pub enum Decision {
     Whole,
@@ -24,6 +24,7 @@ pub enum Decision {
     Windows(u32),
 }
 
+#[tactic(auto, unfolding(crate::specs::Cut::decision_of))]
 pub fn decide(rows: u32, max: u32, stride: u32) -> Decision
     ensures { result ≡ decision_of rows max stride }
 {
@@ -43,14 +44,10 @@ pub fn decide(rows: u32, max: u32, stride: u32) -> Decision
 pub fn count_windows(rows: u32, max: u32, stride: u32) -> u32
     ensures { (d : Direction) → result ≡ length (windows_of rows max stride d) }
 {
-    if rows <= max {
+    if rows <= max || max <= stride {
         return 0;
     }
-    if max <= stride {
-        return 0;
-    }
-    let step = max - stride;
-    (rows - max + (step - 1)) / step + 1
+    (rows - max).div_ceil(max - stride) + 1
 }
 
 // Window number i of the cut, 0 the kept one. Past the last, no rows.
@@ -59,7 +56,7 @@ pub fn window(rows: u32, max: u32, stride: u32, direction: Direction, i: u32) ->
 {
     if i < count_windows(rows, max, stride) {
         let start = i * (max - stride);
-        let end = stop(rows, max, start);
+        let end = start.saturating_add(max).min(rows);
         match direction {
             Direction::Left => Bounds {
                 start: rows - end,
@@ -69,17 +66,5 @@ pub fn window(rows: u32, max: u32, stride: u32, direction: Direction, i: u32) ->
         }
     } else {
         Bounds { start: 0, end: 0 }
-    }
-}
-
-// Where a window of a right cut stops.
-fn stop(rows: u32, max: u32, start: u32) -> u32
-    requires { start ≤ rows }
-    ensures { result ≡ min (start + max) rows }
-{
-    if rows - start <= max {
-        rows
-    } else {
-        start + max
     }
 }

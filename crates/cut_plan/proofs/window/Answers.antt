@@ -1,8 +1,8 @@
 -- `window` gives window number i, by the closed form. Assumes nothing.
-use mathlib.Core.Path.{sym, ap, ◌∙◌}
-use Prim.Native.Nat.{ℕ, ◌-◌, ◌*◌}
+use mathlib.Core.Path.{◌≡◌, sym, ap, ◌∙◌}
+use Prim.Native.Nat.{ℕ, ◌+◌, ◌-◌, ◌*◌, min}
 use native.Mathlib.Omega.{arith}
-use lib.ListN.{get_or, get_or-eq_default}
+use lib.ListN.{get_or}
 use Rattle.cut_plan.specs.Cut.{bounds, windows_of}
 use Rattle.cut_plan.specs.declared.Direction.{Direction}
 use Rattle.cut_plan.specs.declared.Direction.TheVariants.{Left, Right}
@@ -27,27 +27,21 @@ overflow_sub-start c = omega (arith, (there c).cut.less)
 pub overflow_mul-start : goal.overflow_mul-start
 overflow_mul-start c = omega (arith, number_starts (there c))
 
-pub stop-end-requires : goal.stop-end-requires
-stop-end-requires c = omega (arith, number_starts (there c))
-
 pub overflow_sub-result-in-Left : goal.overflow_sub-result-in-Left
-overflow_sub-result-in-Left c = omega (arith, number_starts (there c.before.before))
+overflow_sub-result-in-Left c = omega (arith, number_starts (there c.before.before.before))
 
 pub returns-in-Left : goal.returns-in-Left
 returns-in-Left c =
     let v = c.args in
-    ap (λ (e : ℕ). bounds (v.rows - e) (v.rows - v.i * (v.max - v.stride))) c.stop-end.ensures
-    ∙ sym (number_at (there c.before.before) Left (bounds 0 0))
+    let e : c.min-end.result ≡ min (v.i * (v.max - v.stride) + v.max) v.rows = omega arith in
+    ap (λ (e : ℕ). bounds (v.rows - e) (v.rows - v.i * (v.max - v.stride))) e
+    ∙ sym (number_at (there c.before.before.before) Left (bounds 0 0))
     ∙ ap (λ (d : Direction). get_or (windows_of v.rows v.max v.stride d) v.i (bounds 0 0)) (sym c.in-Left.is)
 
 pub returns-in-Right : goal.returns-in-Right
 returns-in-Right c =
     let v = c.args in
-    ap (bounds (v.i * (v.max - v.stride))) c.stop-end.ensures
-    ∙ sym (number_at (there c.before.before) Right (bounds 0 0))
+    let e : c.min-end.result ≡ min (v.i * (v.max - v.stride) + v.max) v.rows = omega arith in
+    ap (bounds (v.i * (v.max - v.stride))) e
+    ∙ sym (number_at (there c.before.before.before) Right (bounds 0 0))
     ∙ ap (λ (d : Direction). get_or (windows_of v.rows v.max v.stride d) v.i (bounds 0 0)) (sym c.in-Right.is)
-
-pub returns-else-i-count_windows : goal.returns-else-i-count_windows
-returns-else-i-count_windows c =
-    let v = c.args in
-    sym (get_or-eq_default (windows_of v.rows v.max v.stride v.direction) (bounds 0 0) {n = v.i} (omega (arith, c.if-i-count_windows.false, c.count_windows.ensures v.direction)))
