@@ -9,54 +9,43 @@ ghost use Rattle.lookup_search.specs.Promises.{OfRows, matched};
 ghost use Rattle.lookup_search.specs.Searches.{word_rows, holds_place};
 ghost use Rattle.record.specs.Flat.{row_width};
 
-use record::{Column, Encoding, Refusal, Row};
+use record::{Column, Encoding, Row};
 
 // The rows of a word: from start up to, not including, end.
 #[derive(Clone, Copy)]
-pub enum TokensAnswer {
-    Refused(Refusal),
-    Nothing,
-    Found { start: Row, end: Row },
-}
-
-// The row that holds a character.
-#[derive(Clone, Copy)]
-pub enum TokenAnswer {
-    Refused(Refusal),
-    Nothing,
-    Found(Row),
+pub struct Rows {
+    pub start: Row,
+    pub end: Row,
 }
 
 // ---- The walks over the rows
 
 // The first row from start up to, not including, end whose offsets hold the place.
-pub fn first_holding(rows: &[u32], start: u32, end: u32, place: u32) -> TokenAnswer
+pub fn first_holding(rows: &[u32], start: u32, end: u32, place: u32) -> Option<Row>
     requires { end * row_width ≤ length rows.now }
     ensures { OfRows rows.now end
         (λ l. result ≡ token_answer (first_from (holds_place place) start (part start end l))) }
 {
-    let mut i = start;
-    while i < end {
+    for i in start..end {
         let at = (i as usize) * Encoding::ROW_WIDTH;
         if rows[at + Column::OFFSET_START] <= place && place < rows[at + Column::OFFSET_END] {
-            return TokenAnswer::Found(Row(i));
+            return Some(Row(i));
         }
-        i += 1;
     }
-    TokenAnswer::Nothing
+    None
 }
 
 // The answer for the matches seen so far, of which there are none while after is 0.
-pub fn seen(first: u32, after: u32) -> TokensAnswer
+pub fn seen(first: u32, after: u32) -> Option<Rows>
     ensures { result ≡ tokens_answer (matched first after) }
 {
     if after == 0 {
-        TokensAnswer::Nothing
+        None
     } else {
-        TokensAnswer::Found {
+        Some(Rows {
             start: Row(first),
             end: Row(after),
-        }
+        })
     }
 }
 
@@ -69,14 +58,13 @@ pub fn earliest(first: u32, after: u32, i: u32) -> u32
 
 // The first row of the word from start up to, not including, end, and the row after the last one; rows after the first
 // with a word above it are not looked at.
-pub fn rows_of_word(rows: &[u32], start: u32, end: u32, word: u32) -> TokensAnswer
+pub fn rows_of_word(rows: &[u32], start: u32, end: u32, word: u32) -> Option<Rows>
     requires { end * row_width ≤ length rows.now }
     ensures { OfRows rows.now end (λ l. result ≡ tokens_answer (word_rows word start (part start end l))) }
 {
     let mut first: u32 = 0;
     let mut after: u32 = 0;
-    let mut i = start;
-    while i < end {
+    for i in start..end {
         let at = (i as usize) * Encoding::ROW_WIDTH;
         if rows[at + Column::WORD_MARK] == 1 {
             let found = rows[at + Column::WORD];
@@ -88,7 +76,6 @@ pub fn rows_of_word(rows: &[u32], start: u32, end: u32, word: u32) -> TokensAnsw
                 after = i + 1;
             }
         }
-        i += 1;
     }
     seen(first, after)
 }
