@@ -1,8 +1,10 @@
 -- How an answer crosses the C interface: the number of its refusal, 0 for none, and the lent numbers afterwards, which a
 -- refusal leaves as they were.
 -- Assumes nothing: these are definitions.
-use Rattle.std.specs.Prelude.{◌≡◌, ℕ, List}
+use Rattle.std.specs.Prelude.{◌≡◌, ℕ, List, Result, Ok, Err}
 use Rattle.record.specs.Flat.{flat_nodes, flat_rows}
+use Rattle.record.specs.Refusals.{number_of}
+use Rattle.record.specs.declared.Refusal.{Refusal}
 use Rattle.record.specs.Outcome.{Outcome, answered, refusal_of, counts_or, left, left_working}
 
 pub record Crossed : Type 0 where
@@ -11,6 +13,11 @@ pub record Crossed : Type 0 where
 
 abbrev pub crossed : ℕ → List ℕ → Crossed
 crossed refusal numbers = record { refusal = refusal; numbers = numbers }
+
+-- numbers in the place of those that were lent, or a refusal, which leaves them
+abbrev pub crossed_of : List ℕ → Result (List ℕ) Refusal → Crossed
+crossed_of was (Err k) = crossed (number_of k) was
+crossed_of was (Ok numbers) = crossed 0 numbers
 
 -- r and the lent numbers are what c says
 pub record Crosses (c : Crossed) (r : ℕ) (numbers : List ℕ) : Type 0 where

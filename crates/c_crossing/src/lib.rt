@@ -4,13 +4,14 @@
 #![tactic(auto)]
 
 ghost use Rattle.std.specs.Prelude.{◌≡◌};
+ghost use Rattle.c_crossing.specs.Crossing.{Crosses, crossed_of};
 ghost use Rattle.c_crossing.specs.Options.{direction_of, strategy_of};
 ghost use Rattle.record.specs.Outcome.{refusal_of, counts_or, fault_after};
 ghost use Rattle.record.specs.Refusals.{number_of, fault_or};
 
 use cut_lengths::Strategy;
 use cut_plan::Direction;
-use record::{FaultAnswer, Refusal, Written};
+use record::{Refusal, Written};
 
 // The number of an answer's refusal, and its nodes and rows through `written`. It is a function of its own so that the `match`
 // stands where no output is lent.
@@ -19,7 +20,7 @@ pub fn told(answer: Result<Written, Refusal>, written: &mut [usize; 2]) -> u32
     ensures counts { written.new ≡ counts_or written.old answer }
 {
     match answer {
-        Err(k) => k.number(),
+        Err(why) => why.number(),
         Ok(Written { nodes, rows }) => {
             *written = [nodes, rows];
             0
@@ -32,7 +33,7 @@ pub fn fault_told(why: Refusal, fault: &mut [usize; 2]) -> u32
     ensures refusal { result ≡ number_of why }
     ensures part { fault.new ≡ fault_or fault.old why }
 {
-    let FaultAnswer::Part(found) = why.fault() else {
+    let Some(found) = why.fault() else {
         return why.number();
     };
     *fault = [found.part, found.place];
@@ -55,6 +56,19 @@ pub fn told_with_fault(
     told(answer, written)
 }
 
+// The number of an answer's refusal, and its numbers through `out`, which a refusal leaves.
+pub fn cross<const N: usize>(answer: Result<[u32; N], Refusal>, out: &mut [u32; N]) -> u32
+    ensures { Crosses (crossed_of out.old answer.entry) result out.new }
+{
+    match answer {
+        Err(k) => k.number(),
+        Ok(numbers) => {
+            *out = numbers;
+            0
+        }
+    }
+}
+
 // Which end of the rows a cut or padding is at.
 pub fn direction_of(left: bool) -> Direction
     ensures { result ≡ direction_of left }
@@ -70,11 +84,9 @@ pub fn direction_of(left: bool) -> Direction
 pub fn strategy_of(strategy: u32) -> Strategy
     ensures { result ≡ strategy_of strategy }
 {
-    if strategy == 0 {
-        return Strategy::LongestFirst;
+    match strategy {
+        0 => Strategy::LongestFirst,
+        1 => Strategy::OnlyFirst,
+        _ => Strategy::OnlySecond,
     }
-    if strategy == 1 {
-        return Strategy::OnlyFirst;
-    }
-    Strategy::OnlySecond
 }
