@@ -1,27 +1,12 @@
--- Numbers of a row or of a range, put where they belong.
+-- The numbers of a range, stored one by one where they belong.
 -- Assumes nothing.
 use mathlib.Core.Path.{◌≡◌, refl, ap, ◌∙◌}
 use Prim.Native.Nat.{ℕ, suc, ◌+◌}
 use native.Mathlib.Nat.{add-suc}
 use native.Mathlib.Numerals.{add-one}
 use mathlib.Core.List.{List, [], ◌∷◌}
-use lib.ListN.{length, take, drop, set}
+use lib.ListN.{set}
 use lib.Seq.{sets}
-use Rattle.record.specs.Tree.{Row}
-use Rattle.record.specs.Flat.{row_width, row_numbers}
-
--- ---- A row is copied as a block
-
-module _ {numbers : List ℕ} (r : Row) (e : numbers ≡ row_numbers r) where
-  pub row_long : length numbers ≡ row_width
-  unfolding row_numbers
-  row_long = ap length e
-
-  pub row_taken : take row_width (drop 0 numbers) ≡ row_numbers r
-  unfolding row_numbers
-  row_taken = ap (take row_width) e
-
--- ---- A range is stored number by number
 
 -- the first of xs goes to at + k, the next to at + (k + 1), as straight-line code has it
 abbrev pub puts : List ℕ → ℕ → ℕ → List ℕ → List ℕ

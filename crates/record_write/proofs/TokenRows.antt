@@ -3,7 +3,7 @@
 use mathlib.Core.Path.{◌≡◌, sym, ap, ◌∙◌}
 use Prim.Native.Nat.{ℕ, ◌+◌, ◌*◌}
 use native.Mathlib.Numerals.{add-one}
-use mathlib.Core.List.{List, flat_map}
+use mathlib.Core.List.{List, [], ◌∷◌, ◌++◌, flat_map}
 use lib.ListN.{drop}
 use lib.Seq.{sets}
 use Rattle.record.specs.Tree.{Row}
@@ -18,15 +18,11 @@ use Rattle.record_write.proofs.Runs.{sets_more}
 abbrev pub token_rows : ℕ → ℕ → List ℕ → List Row
 token_rows t n tokens = several (token_row t) token_width n tokens
 
--- one more row after the others
-token_more : (t n : ℕ) (tokens out : List ℕ) → sets (sets out 0 (flat_map row_numbers (token_rows t n tokens))) (n * row_width) (row_numbers (token_row t (drop (n * token_width) tokens))) ≡ sets out 0 (flat_map row_numbers (token_rows t (n + 1) tokens))
-token_more t n tokens out =
-    let token = token_row t (drop (n * token_width) tokens) in
-    ap (λ (k : ℕ). sets (sets out 0 (flat_map row_numbers (token_rows t n tokens))) (k * row_width) (row_numbers token)) (sym (length_several (token_row t) token_width n tokens))
-    ∙ sets_more row_stored out (token_rows t n tokens) token
-    ∙ ap (λ (r : List Row). sets out 0 (flat_map row_numbers r)) (sym (several_more (token_row t) token_width n tokens))
-    ∙ ap (λ (k : ℕ). sets out 0 (flat_map row_numbers (token_rows t k tokens))) (sym (add-one n))
-
--- a turn that writes it
-pub token_turn : (t n : ℕ) (tokens out was : List ℕ) {from at : ℕ} {row : Row} → out ≡ sets was 0 (flat_map row_numbers (token_rows t n tokens)) → at ≡ n * row_width → from ≡ n * token_width → row ≡ token_row t (drop from tokens) → sets out at (row_numbers row) ≡ sets was 0 (flat_map row_numbers (token_rows t (n + 1) tokens))
-token_turn t n tokens out was p a f r = rw (p, a, r, f) (token_more t n tokens was)
+-- a turn that writes one more row after the others
+pub token_turn : (t n : ℕ) (tokens was : List ℕ) {row : Row} → row ≡ token_row t (drop (n * token_width) tokens) → sets (sets was 0 (flat_map row_numbers (token_rows t n tokens))) (n * row_width) (row_numbers row) ≡ sets was 0 (flat_map row_numbers (token_rows t (n + 1) tokens))
+token_turn t n tokens was {row} r =
+    ap (λ (k : ℕ). sets (sets was 0 (flat_map row_numbers (token_rows t n tokens))) (k * row_width) (row_numbers row)) (sym (length_several (token_row t) token_width n tokens))
+    ∙ sets_more row_stored was (token_rows t n tokens) row
+    ∙ ap (λ (x : Row). sets was 0 (flat_map row_numbers (token_rows t n tokens ++ (x ∷ [])))) r
+    ∙ ap (λ (l : List Row). sets was 0 (flat_map row_numbers l)) (sym (several_more (token_row t) token_width n tokens))
+    ∙ ap (λ (k : ℕ). sets was 0 (flat_map row_numbers (token_rows t k tokens))) (sym (add-one n))

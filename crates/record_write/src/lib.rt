@@ -89,14 +89,9 @@ pub fn write_tokens(tokens: &[u32], type_id: u32, count: usize, out_rows: &mut [
     ensures { out_rows.new ≡ sets out_rows.old 0
         (flat_map row_numbers (several (token_row type_id) token_width count tokens.now)) }
 {
-    let mut i: usize = 0;
-    let mut from: usize = 0;
-    let mut at: usize = 0;
-    while i < count {
-        write_row(out_rows, at, token_row(tokens, from, type_id));
-        i += 1;
-        from += Token::WIDTH;
-        at += Encoding::ROW_WIDTH;
+    for i in 0..count {
+        let row = token_row(tokens, i * Token::WIDTH, type_id);
+        write_row(out_rows, i * Encoding::ROW_WIDTH, row);
     }
 }
 
