@@ -14,7 +14,7 @@ use Rattle.lines.specs.Decimal.{zero_byte, nine_byte, is_digit, decimal, decimal
 use Rattle.lines.proofs.Digits.{decimal_at_least}
 use Rattle.template_numbers.specs.Number.{plus, after_sign, u32_of, read_number, number_answer}
 use Rattle.template_numbers.specs.Promises.{SignPassed}
-use Rattle.template_numbers.specs.declared.NumberAnswer.TheVariants.{Unreadable, Number}
+use Rattle.std.specs.Prelude.{Some, None}
 
 -- ---- Where the digits start
 
@@ -49,28 +49,28 @@ module _ {text : List ℕ} {start : ℕ} (s : SignPassed text start) where
       let long : length (after_sign text) ≡ length text - start = ap length (sym s.digits) ∙ length-drop start text in
       record { inside = s.inside; some_digit = omega (arith, s.inside); small = omega arith; only = ap (all_ok is_digit) (sym s.digits); whole = ap decimal (sym s.digits) }
 
-  pub no_digits : start ≡ length text → Unreadable ≡ number_answer (read_number text)
+  pub no_digits : start ≡ length text → None ≡ number_answer (read_number text)
   unfolding read_number number_answer
   no_digits h =
       let none : length (after_sign text) ≡ 0 = omega (arith, ap length (sym s.digits) ∙ length-drop start text) in
       rw none
 
 -- something that is no digit, or a value that is too large
-not_only : (digits : List ℕ) → all_ok is_digit digits ≡ false → Unreadable ≡ number_answer (u32_of digits)
+not_only : (digits : List ℕ) → all_ok is_digit digits ≡ false → None ≡ number_answer (u32_of digits)
 unfolding number_answer
 not_only digits e = rw (e, and-false)
 
-not_small : (digits : List ℕ) → largest_u32 < decimal digits → Unreadable ≡ number_answer (u32_of digits)
+not_small : (digits : List ℕ) → largest_u32 < decimal digits → None ≡ number_answer (u32_of digits)
 unfolding number_answer
 not_small digits h = rw (lt-leb (decimal digits) largest_u32 h, and-false, and-false)
 
 module _ {text : List ℕ} {i value : ℕ} (r : Reading text i value) where
   module _ (h : i < length text) where
-    pub ends_below : get_or text i 0 < zero_byte → Unreadable ≡ number_answer (read_number text)
+    pub ends_below : get_or text i 0 < zero_byte → None ≡ number_answer (read_number text)
     unfolding read_number number_answer
     ends_below low = not_only (after_sign text) (r.only ∙ rw (drop-cons text i 0 h, lt-leb zero_byte (get_or text i 0) low))
 
-    pub ends_above : zero_byte ≤ get_or text i 0 → nine_byte < get_or text i 0 → Unreadable ≡ number_answer (read_number text)
+    pub ends_above : zero_byte ≤ get_or text i 0 → nine_byte < get_or text i 0 → None ≡ number_answer (read_number text)
     unfolding read_number number_answer
     ends_above low high = not_only (after_sign text) (r.only ∙ rw (drop-cons text i 0 h, le-leb zero_byte (get_or text i 0) low, lt-leb (get_or text i 0) nine_byte high))
 
@@ -86,11 +86,11 @@ module _ {text : List ℕ} {i value : ℕ} (r : Reading text i value) where
       pub more : next ≤ largest_u32 → Reading text (i + 1) next
       more small = record { inside = omega arith; some_digit = r.some_digit; small = small; only = r.only ∙ rw (add-one, drop-cons text i 0 h, le-leb zero_byte (get_or text i 0) low, le-leb (get_or text i 0) nine_byte high); whole = whole_next }
 
-      pub ends_too_large : largest_u32 < next → Unreadable ≡ number_answer (read_number text)
+      pub ends_too_large : largest_u32 < next → None ≡ number_answer (read_number text)
       unfolding read_number number_answer
       ends_too_large large = not_small (after_sign text) (omega (arith, whole_next, decimal_at_least next (drop (i + 1) text)))
 
-  pub ends_with : length text ≤ i → Number value ≡ number_answer (read_number text)
+  pub ends_with : length text ≤ i → Some value ≡ number_answer (read_number text)
   unfolding decimal_after read_number number_answer
   ends_with h =
       let value_is : decimal (after_sign text) ≡ value = r.whole ∙ rw (drop_of_length-le text h) in

@@ -2,12 +2,10 @@
 -- an empty text, a sign alone and a number above the largest are errors.
 -- That a reading succeeds on exactly these texts, with their decimal value, is shown in proofs/Number.
 -- Assumes nothing: these are definitions.
-use Rattle.std.specs.Prelude.{Bool, ◌&&◌, cond, ℕ, List, [], ◌∷◌, leb, eqb, length}
+use Rattle.std.specs.Prelude.{Bool, ◌&&◌, cond, ℕ, List, [], ◌∷◌, leb, eqb, length, Option as Answer, Some, None}
 use Rattle.std.proofs.Math.Option.{Option, none as nothing, some}
 use Rattle.record.specs.Read.{all_ok}
 use Rattle.lines.specs.Decimal.{is_digit, decimal, largest_u32}
-use Rattle.template_numbers.specs.declared.NumberAnswer.{NumberAnswer}
-use Rattle.template_numbers.specs.declared.NumberAnswer.TheVariants.{Unreadable, Number}
 
 -- the byte of a plus sign
 abbrev pub plus : ℕ
@@ -29,6 +27,6 @@ u32_of digits = cond (is_number digits) (some (decimal digits)) nothing
 unfoldable pub read_number : List ℕ → Option ℕ
 read_number text = u32_of (after_sign text)
 
-unfoldable pub number_answer : Option ℕ → NumberAnswer
-number_answer nothing = Unreadable
-number_answer (some n) = Number n
+unfoldable pub number_answer : Option ℕ → Answer ℕ
+number_answer nothing = None
+number_answer (some n) = Some n

@@ -13,38 +13,30 @@ const NINE: u8 = b'9';
 
 const LARGEST: u64 = 4_294_967_295;
 
-#[derive(Clone, Copy)]
-pub enum NumberAnswer {
-    Unreadable,
-    Number(u32),
-}
-
 // The number that a text is: an optional + and one or more digits, of a value that a u32 holds.
-pub fn read_number(text: &[u8]) -> NumberAnswer
+pub fn read_number(text: &[u8]) -> Option<u32>
     ensures { result ≡ number_answer (read_number text.now) }
 {
     let start = after_sign(text);
     if start == text.len() {
-        return NumberAnswer::Unreadable;
+        return None;
     }
     let mut value: u64 = 0;
-    let mut i = start;
-    while i < text.len() {
+    for i in start..text.len() {
         let byte = text[i];
         if byte < ZERO {
-            return NumberAnswer::Unreadable;
+            return None;
         }
         if byte > NINE {
-            return NumberAnswer::Unreadable;
+            return None;
         }
-        value = value * 10 + lines::wide(byte - ZERO);
+        value = value * 10 + (byte - ZERO) as u64;
         // A further digit never makes a number smaller, so this one stays too large.
         if value > LARGEST {
-            return NumberAnswer::Unreadable;
+            return None;
         }
-        i += 1;
     }
-    NumberAnswer::Number(value as u32)
+    Some(value as u32)
 }
 
 // Where the digits start: after a plus sign, if there is one.

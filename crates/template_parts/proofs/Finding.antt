@@ -62,5 +62,5 @@ module _ {text : List ℕ} {at byte i : ℕ} (l : Looking text at byte i) where
   pub found : i < length text → get_or text i 0 ≡ byte → FoundFrom text at byte i
   found h e = record { place = omega (arith, l.same, length_to_here byte text i h e); after = l.after; inside = l.inside }
 
-  pub nowhere : length text ≤ i → FoundFrom text at byte i
-  nowhere h = record { place = omega (arith, l.same, length_to_end byte text i h); after = l.after; inside = l.inside }
+  pub nowhere : length text ≤ i → FoundFrom text at byte (length text)
+  nowhere h = record { place = omega (arith, l.same, l.inside, length_to_end byte text i h); after = omega (arith, l.after, l.inside); inside = omega arith }

@@ -14,7 +14,8 @@ use borrow.Author.Tests.{leb-true, leb-false, le-leb, lt-leb, eq-eqb, ne_eqb}
 use Rattle.template_parts.specs.Split.{split}
 use Rattle.template_parts.specs.Parts.{space, parts, parts_from, first_of, part_step_at, length_to}
 use Rattle.template_parts.specs.Promises.{FoundFrom}
-use Rattle.template_parts.specs.declared.PartAnswer.TheVariants.{Part, End}
+use Rattle.std.specs.Prelude.{Some, None}
+use Rattle.template_parts.specs.declared.Part.{Part}
 use Rattle.template_parts.specs.declared.PartStep.{PartStep}
 use Rattle.template_parts.proofs.Finding.{length_to_most}
 use Rattle.template_parts.proofs.Split.{after, split_first}
@@ -52,7 +53,7 @@ module _ (text : List ℕ) (at : ℕ) where
     parts_first = rw (le-leb at (length text) h, split_first space (drop at text), drop-drop) (ap (◌∷◌ (take size (drop at text))) (rest text (at + size)))
 
     -- the part that ends at the first space from a place on, and the place after it
-    pub step_is : {end : ℕ} → FoundFrom text at space end → ◌≡◌ {A = PartStep} (record { answer = Part at (end - at); next = end + 1 }) (part_step_at text at)
+    pub step_is : {end : ℕ} → FoundFrom text at space end → ◌≡◌ {A = PartStep} (record { answer = Some (record { start = at; length = end - at }); next = end + 1 }) (part_step_at text at)
     step_is {end} found =
         let whole : length (take size (drop at text)) ≡ size = length-take-le size (drop at text) (length_to_most space (drop at text)) in
         let long : end - at ≡ size = omega (arith, found.place) in
@@ -67,22 +68,22 @@ pub record Here (text : List ℕ) (at start size : ℕ) : Type 0 where
   pub next : (part_step_at text at).next ≡ start + size + 1
   pub left : parts_from text at ≡ take size (drop start text) ∷ parts_from text (start + size + 1)
 
-pub part_found : (text : List ℕ) (at : ℕ) {start size : ℕ} → (part_step_at text at).answer ≡ Part start size → Here text at start size
-part_found text at {start} {size} e = go (leb at (length text)) refl
+pub part_found : (text : List ℕ) (at : ℕ) {part : Part} → (part_step_at text at).answer ≡ Some part → Here text at part.start part.length
+part_found text at {part} e = go (leb at (length text)) refl
   where
-    go : (more : Bool) → leb at (length text) ≡ more → Here text at start size
+    go : (more : Bool) → leb at (length text) ≡ more → Here text at part.start part.length
     go true t =
         let h : at ≤ length text = leb-true at (length text) t in
         let n : ℕ = length_to space (drop at text) in
         let whole : length (take n (drop at text)) ≡ n = length-take-le n (drop at text) (length_to_most space (drop at text)) in
         let first : parts_from text at ≡ take n (drop at text) ∷ parts_from text (at + n + 1) = parts_first text at h in
-        let found : Part at (length (take n (drop at text))) ≡ Part start size = rw first at e in
-        let place : start ≡ at = cc in
-        let long : size ≡ n = cc in
+        let found : Some (record { start = at; length = length (take n (drop at text)) }) ≡ Some part = rw first at e in
+        let place : part.start ≡ at = cc in
+        let long : part.length ≡ n = cc in
         record { place = place; inside = rw (place, long) (size_fits text at h); next = rw (first, whole, place, long); left = rw (place, long) first }
     go false t =
         let none : parts_from text at ≡ [] = none_left text at (leb-false at (length text) t) in
-        let end : End ≡ Part start size = rw none at e in
+        let end : None ≡ Some part = rw none at e in
         let z : ◌≡◌ {A = ℕ} 0 1 = cc in
         absurd (omega arith)
 
@@ -98,10 +99,10 @@ part_leads text at {part} {rest} e =
     let same : take (length part) (drop at text) ∷ parts_from text (at + length part + 1) ≡ part ∷ rest = sym here.left ∙ e in
     record { inside = here.inside; stands = cc; next = cc }
 
-pub part_none : (text : List ℕ) (at : ℕ) → (part_step_at text at).answer ≡ End → parts_from text at ≡ []
+pub part_none : (text : List ℕ) (at : ℕ) → (part_step_at text at).answer ≡ None → parts_from text at ≡ []
 part_none text at e = go (parts_from text at) e
   where
-    go : (left : List (List ℕ)) → first_of at left ≡ End → left ≡ []
+    go : (left : List (List ℕ)) → first_of at left ≡ None → left ≡ []
     go [] e = refl
     go (part ∷ rest) e = cc
 

@@ -1,9 +1,8 @@
 -- The parts of a template text (document 01, module 7), and the place that goes from part to part.
 -- Assumes nothing: these are definitions.
-use Rattle.std.specs.Prelude.{cond, ℕ, suc, ◌+◌, List, [], ◌∷◌, eqb, leb, length, drop}
+use Rattle.std.specs.Prelude.{cond, ℕ, suc, ◌+◌, List, [], ◌∷◌, eqb, leb, length, drop, Option, Some, None}
 use Rattle.template_parts.specs.Split.{split}
-use Rattle.template_parts.specs.declared.PartAnswer.{PartAnswer}
-use Rattle.template_parts.specs.declared.PartAnswer.TheVariants.{Part, End}
+use Rattle.template_parts.specs.declared.Part.{Part}
 use Rattle.template_parts.specs.declared.PartStep.{PartStep}
 
 -- the byte of a space
@@ -19,9 +18,9 @@ unfoldable pub parts_from : List ℕ → ℕ → List (List ℕ)
 parts_from text at = cond (leb at (length text)) (parts (drop at text)) []
 
 -- the part at a place, by its start and length
-abbrev pub first_of : ℕ → List (List ℕ) → PartAnswer
-first_of at [] = End
-first_of at (part ∷ parts) = Part at (length part)
+abbrev pub first_of : ℕ → List (List ℕ) → Option Part
+first_of at [] = None
+first_of at (part ∷ parts) = Some (record { start = at; length = length part })
 
 -- "moved on by each part read": the place after a part and its space; the same place where there is no part
 abbrev pub place_after : ℕ → List (List ℕ) → ℕ

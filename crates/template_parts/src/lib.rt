@@ -7,17 +7,17 @@ ghost use Rattle.template_parts.specs.Promises.{FoundFrom};
 
 const SPACE: u8 = b' ';
 
-// What a place in a text holds: a part, by its start and length, or the end.
+// A part of a text.
 #[derive(Clone, Copy)]
-pub enum PartAnswer {
-    Part { start: usize, length: usize },
-    End,
+pub struct Part {
+    pub start: usize,
+    pub length: usize,
 }
 
-// What reading at a place finds, and the place after it: the same place at the end.
+// The part at a place, unless the text ends there, and the place after it: the same place at the end.
 #[derive(Clone, Copy)]
 pub struct PartStep {
-    pub answer: PartAnswer,
+    pub answer: Option<Part>,
     pub next: usize,
 }
 
@@ -26,14 +26,12 @@ pub fn find(text: &[u8], at: usize, byte: u8) -> usize
     requires { at ≤ length text.now }
     ensures { FoundFrom text.now at byte result }
 {
-    let mut i = at;
-    while i < text.len() {
+    for i in at..text.len() {
         if text[i] == byte {
             return i;
         }
-        i += 1;
     }
-    i
+    text.len()
 }
 
 // How many parts a text has: one more than it has spaces.
@@ -41,12 +39,10 @@ pub fn count_parts(text: &[u8]) -> usize
     ensures { result ≡ length (parts text.now) }
 {
     let mut count: usize = 1;
-    let mut i: usize = 0;
-    while i < text.len() {
-        if text[i] == SPACE {
+    for byte in text {
+        if *byte == SPACE {
             count += 1;
         }
-        i += 1;
     }
     count
 }
@@ -57,16 +53,16 @@ pub fn part_at(text: &[u8], at: usize) -> PartStep
 {
     if text.len() < at {
         return PartStep {
-            answer: PartAnswer::End,
+            answer: None,
             next: at,
         };
     }
     let end = find(text, at, SPACE);
     PartStep {
-        answer: PartAnswer::Part {
+        answer: Some(Part {
             start: at,
             length: end - at,
-        },
+        }),
         next: end + 1,
     }
 }
@@ -78,7 +74,7 @@ pub struct TemplatePlace {
 }
 
 // The part at the place, which moves on to the next.
-pub fn next_part(text: &[u8], place: &mut TemplatePlace) -> PartAnswer
+pub fn next_part(text: &[u8], place: &mut TemplatePlace) -> Option<Part>
     ensures { (result ≡ (part_step_at text.now place.old.at).answer)
         × (place.new.at ≡ (part_step_at text.now place.old.at).next) }
 {

@@ -20,13 +20,12 @@ returns-then-byte-gt-NINE c =
 pub returns-then-value-gt-LARGEST : goal.returns-then-value-gt-LARGEST
 returns-then-value-gt-LARGEST c =
     ends_too_large c.loop-i.invariant c.loop-i-test.true c.if-byte-lt-ZERO.false c.if-byte-gt-NINE.false
-    (omega (arith, c.wide.ensures))
+    (omega arith)
 
 pub loop-i-preserved : goal.loop-i-preserved
 loop-i-preserved c =
-    rw c.wide.ensures
     (more c.loop-i.invariant c.loop-i-test.true c.if-byte-lt-ZERO.false c.if-byte-gt-NINE.false
-    (omega (arith, c.wide.ensures)))
+    (omega arith))
 
 pub returns : goal.returns
 returns c = ends_with c.loop-i.invariant c.loop-i-test.false

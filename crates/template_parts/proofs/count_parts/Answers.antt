@@ -2,17 +2,17 @@
 -- the parts of the text. Assumes nothing.
 use Rattle.template_parts.proofs.Parts.{start, at_space, at_other, at_end}
 use Rattle.template_parts.proofs.count_parts.Goals as goal
-use Rattle.template_parts.proofs.count_parts.Goals.{then-text-i-eq-SPACE, else-text-i-eq-SPACE}
+use Rattle.template_parts.proofs.count_parts.Goals.{then-byte-eq-SPACE, else-byte-eq-SPACE}
 
-pub loop-i-init : goal.loop-i-init
-loop-i-init c = start _
+pub loop-byte-init : goal.loop-byte-init
+loop-byte-init c = start _
 
-pub loop-i-preserved : goal.loop-i-preserved
-loop-i-preserved c =
-    elim c.if-text-i-eq-SPACE.branch [
-      | then-text-i-eq-SPACE w ↦ rw w.count-is (at_space c.loop-i.invariant c.loop-i-test.true w.if-text-i-eq-SPACE.true)
-      | else-text-i-eq-SPACE w ↦ rw w.count-is (at_other c.loop-i.invariant c.loop-i-test.true w.if-text-i-eq-SPACE.false)
+pub loop-byte-preserved : goal.loop-byte-preserved
+loop-byte-preserved c =
+    elim c.if-byte-eq-SPACE.branch [
+      | then-byte-eq-SPACE w ↦ rw w.count-is (at_space c.loop-byte.invariant c.loop-byte-test.true w.if-byte-eq-SPACE.true)
+      | else-byte-eq-SPACE w ↦ rw w.count-is (at_other c.loop-byte.invariant c.loop-byte-test.true w.if-byte-eq-SPACE.false)
     ]
 
 pub returns : goal.returns
-returns c = at_end c.loop-i.invariant c.loop-i-test.false
+returns c = at_end c.loop-byte.invariant c.loop-byte-test.false

