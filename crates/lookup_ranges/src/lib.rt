@@ -7,7 +7,14 @@ ghost use Rattle.lookup_ranges.specs.Promises.{Marks, ColumnFits, OfTop};
 ghost use Rattle.lookup_ranges.specs.Ranges.{sequence_range, present, n_sequences, get_sequence_ids};
 ghost use Rattle.record.specs.Flat.{node_width};
 
-use record::{Bounds, Encoding};
+use record::{Bounds, Encoding, Row};
+
+// The rows of a sequence or of a word: from start up to, not including, end.
+#[derive(Clone, Copy)]
+pub struct Rows {
+    pub start: Row,
+    pub end: Row,
+}
 
 // ---- What the operations share: functions of the top node, which is there.
 

@@ -5,7 +5,7 @@ use Rattle.std.specs.Prelude.{ℕ, Option as Answer, Some, None}
 use Rattle.std.proofs.Math.Option.{Option, none as nothing, some}
 use Rattle.record.specs.declared.Bounds.{Bounds}
 use Rattle.record.specs.declared.Row.{Row}
-use Rattle.lookup_search.specs.declared.Rows.{Rows}
+use Rattle.lookup_ranges.specs.declared.Rows.{Rows}
 
 -- nothing, or the rows of a word from start up to, not including, end
 abbrev pub tokens_answer : Option Bounds → Answer Rows

@@ -9,14 +9,8 @@ ghost use Rattle.lookup_search.specs.Promises.{OfRows, matched};
 ghost use Rattle.lookup_search.specs.Searches.{word_rows, holds_place};
 ghost use Rattle.record.specs.Flat.{row_width};
 
+use lookup_ranges::Rows;
 use record::{Column, Encoding, Row};
-
-// The rows of a word: from start up to, not including, end.
-#[derive(Clone, Copy)]
-pub struct Rows {
-    pub start: Row,
-    pub end: Row,
-}
 
 // ---- The walks over the rows
 
