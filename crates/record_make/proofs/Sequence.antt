@@ -1,6 +1,8 @@
 -- An encoding with the range of a sequence set: it is fine, its numbers, when it has room, and what `set_sequence_id` says then.
 -- Assumes nothing.
-use Rattle.std.specs.Prelude.{Ok}
+use Rattle.record.specs.declared.Refusal.{Refusal}
+use Rattle.record.specs.declared.Written.{Written}
+use Rattle.std.specs.Prelude.{Ok, Result}
 use mathlib.Core.Path.{◌≡◌, refl, sym, ap, ap₂, ◌∙◌}
 use mathlib.Core.Bool.{Bool, false, cond}
 use mathlib.Core.Logic.{inr}
@@ -50,8 +52,8 @@ module _ (id : ℕ) {nodes rows : List ℕ} {E : Encoding} (h : One nodes rows E
   rows_long : rows_in set_forest * row_width ≡ length rows
   rows_long = sym (length_rows (forest (E ∷ []))) ∙ ap length h.stores.rows_are
 
-  set_counted : Ok (record { nodes = (length nodes / node_width); rows = (length rows / row_width) }) ≡ Ok (record { nodes = (nodes_in set_forest); rows = (rows_in set_forest) })
-  set_counted = ap₂ Ok (record { nodes = (omega (arith, nodes_long)); rows = (omega (arith, rows_long)) })
+  set_counted : ◌≡◌ {A = Result Written Refusal} (Ok (record { nodes = length nodes / node_width; rows = length rows / row_width })) (Ok (record { nodes = nodes_in set_forest; rows = rows_in set_forest }))
+  set_counted = ap₂ (λ (n m : ℕ). Ok (record { nodes = n; rows = m })) (omega (arith, nodes_long)) (omega (arith, rows_long))
 
   -- so it has room in just the outputs that hold the input
   module _ (out_nodes out_rows : List ℕ) where
@@ -82,7 +84,7 @@ module _ (id : ℕ) {nodes rows : List ℕ} {E : Encoding} (h : One nodes rows E
         sequence_set a ∙ no_room out_nodes out_rows set_forest (λ r. full (omega (arith, nodes_long, r.nodes_fit)) (omega (arith, rows_long, r.rows_fit)))
 
     -- the promise: nodes and rows copied, then the range written
-    pub sequence_written : {copied nodes' rows' : List ℕ} → id < sequences → length nodes ≤ length out_nodes → length rows ≤ length out_rows → copied ≡ sets out_nodes 0 nodes → nodes' ≡ sets copied (2 + id * 3) (range_numbers (present_range 0 (get_or nodes 0 0))) → rows' ≡ sets out_rows 0 rows → Writes (set_sequence_id (read nodes rows) id out_nodes out_rows) (Ok (record { nodes = (length nodes / node_width); rows = (length rows / row_width) })) out_nodes out_rows nodes' rows'
+    pub sequence_written : {copied nodes' rows' : List ℕ} → id < sequences → length nodes ≤ length out_nodes → length rows ≤ length out_rows → copied ≡ sets out_nodes 0 nodes → nodes' ≡ sets copied (2 + id * 3) (range_numbers (present_range 0 (get_or nodes 0 0))) → rows' ≡ sets out_rows 0 rows → Writes (set_sequence_id (read nodes rows) id out_nodes out_rows) (Ok (record { nodes = length nodes / node_width; rows = length rows / row_width })) out_nodes out_rows nodes' rows'
     sequence_written a b c e n r =
         let room = set_room b c in
         let lengths = room_lengths set_fine room in

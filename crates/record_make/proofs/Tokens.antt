@@ -1,6 +1,8 @@
 -- The encoding of tokens: it is fine, its numbers, when it has room, and what `from_tokens` says then.
 -- Assumes nothing.
-use Rattle.std.specs.Prelude.{Ok}
+use Rattle.record.specs.declared.Refusal.{Refusal}
+use Rattle.record.specs.declared.Written.{Written}
+use Rattle.std.specs.Prelude.{Ok, Result}
 use mathlib.Core.Path.{◌≡◌, refl, sym, ap, ◌∙◌}
 use mathlib.Core.Bool.{Bool, cond}
 use mathlib.Core.Logic.{inl}
@@ -46,8 +48,8 @@ module _ (t n : ℕ) (tokens : List ℕ) where
   unfolding flat_rows
   tokens_rows = append-nil (flat_map row_numbers (token_rows t n tokens))
 
-  tokens_counted : Ok (record { nodes = 1; rows = n }) ≡ Ok (record { nodes = (nodes_in token_forest); rows = (rows_in token_forest) })
-  tokens_counted = let e = rows_long in ap (Done 1) (omega arith)
+  tokens_counted : ◌≡◌ {A = Result Written Refusal} (Ok (record { nodes = 1; rows = n })) (Ok (record { nodes = nodes_in token_forest; rows = rows_in token_forest }))
+  tokens_counted = let e = rows_long in ap (λ (m : ℕ). Ok (record { nodes = 1; rows = m })) (omega arith)
 
 -- ---- The outcome
 
