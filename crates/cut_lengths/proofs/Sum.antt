@@ -9,16 +9,14 @@ use native.Mathlib.Nat.{pos_of_ne-zero}
 use native.Mathlib.Omega.{arith}
 use lib.Dec.{leb, eqb}
 use borrow.Author.Tests.{leb-true, leb-false, eqb-true, eqb-false}
+use Rattle.std.specs.Prelude.{Option, Some, None, Result, Ok, Err, unwrap_or}
 use Rattle.record.specs.Refusals.{number_of}
 use Rattle.record.specs.declared.Refusal.{Refusal}
 use Rattle.record.specs.declared.Refusal.TheVariants.{SecondMissing, TooShort}
-use Rattle.cut_lengths.specs.Lengths.{shorter_share, longer_share, cut_alone, kept_alone, cut_both, kept_both, kept_lengths, TurnedAway}
+use Rattle.cut_lengths.specs.Lengths.{alone, both, shorter_share, longer_share, cut_alone, kept_alone, cut_both, kept_both, kept_lengths, TurnedAway}
 use Rattle.cut_lengths.specs.declared.Strategy.{Strategy}
 use Rattle.cut_lengths.specs.declared.Strategy.TheVariants.{LongestFirst, OnlyFirst, OnlySecond}
-use Rattle.cut_lengths.specs.declared.Second.{Second}
-use Rattle.cut_lengths.specs.declared.Second.TheVariants.{Missing, Rows}
 use Rattle.cut_lengths.specs.declared.Kept.{Kept}
-use Rattle.cut_lengths.specs.declared.Kept.TheVariants.{Refused, Alone, Both}
 use Rattle.lists.proofs.Numbers.{either}
 use Rattle.cut_lengths.proofs.Keeping.{shortened_some, shortened_none, longest_first, longest_second}
 use Rattle.cut_lengths.proofs.Shares.{shorter_few, longer_few, shorter_many, longer_many}
@@ -29,13 +27,16 @@ pub record KeepsBoth (first second most n m : ℕ) : Type 0 where
   pub second_no_more : m ≤ second
   pub together : n + m ≡ min (first + second) most
 
-abbrev pub KeepsRows : ℕ → Second → ℕ → Kept → Type 0
-KeepsRows first Missing most (Refused k) = TurnedAway first most k
-KeepsRows first Missing most (Alone n) = n ≡ min first most
-KeepsRows first Missing most (Both n m) = ⊥
-KeepsRows first (Rows second) most (Refused k) = TurnedAway (first + second) most k
-KeepsRows first (Rows second) most (Alone n) = ⊥
-KeepsRows first (Rows second) most (Both n m) = KeepsBoth first second most n m
+-- n of the only encoding's rows, or as many of both
+abbrev pub KeepsOf : ℕ → Option ℕ → ℕ → ℕ → Option ℕ → Type 0
+KeepsOf first None most n None = n ≡ min first most
+KeepsOf first None most n (Some m) = ⊥
+KeepsOf first (Some second) most n None = ⊥
+KeepsOf first (Some second) most n (Some m) = KeepsBoth first second most n m
+
+abbrev pub KeepsRows : ℕ → Option ℕ → ℕ → Result Kept Refusal → Type 0
+KeepsRows first second most (Err k) = TurnedAway (first + unwrap_or second 0) most k
+KeepsRows first second most (Ok k) = KeepsOf first second most k.first k.second
 
 -- ---- The longest first
 
@@ -54,64 +55,64 @@ shares n other most h o =
 
 -- ---- One encoding, and two
 
-module _ (first : ℕ) (second : Second) (most : ℕ) where
-  keeps : {k l : Kept} → k ≡ l → KeepsRows first second most l → KeepsRows first second most k
+module _ (first : ℕ) (second : Option ℕ) (most : ℕ) where
+  keeps : {k l : Result Kept Refusal} → k ≡ l → KeepsRows first second most l → KeepsRows first second most k
   keeps e h = subst (KeepsRows first second most) (sym e) h
 
 away : {rows most : ℕ} {why : Refusal} → (why ≡ SecondMissing) ⊎ (why ≡ TooShort) → 0 < most → most < rows → TurnedAway rows most why
 away n p h = record { number = n; removed = h; not_zero = p }
 
-pub alone_keeps : (first most : ℕ) (s : Strategy) → KeepsRows first Missing most (kept_alone first most s)
+pub alone_keeps : (first most : ℕ) (s : Strategy) → KeepsRows first None most (kept_alone first most s)
 unfolding kept_alone
 alone_keeps first most s = go (eqb most 0) refl (leb first most) refl s
   where
-    cut : (s : Strategy) → 0 < most → most < first → KeepsRows first Missing most (cut_alone s first (first - most))
+    cut : (s : Strategy) → 0 < most → most < first → KeepsRows first None most (cut_alone s first (first - most))
     cut LongestFirst p h = omega arith
     cut OnlyFirst p h =
         ⊎_elim
-        (λ (z : first ≤ first - most). keeps first Missing most (shortened_none first (first - most) (λ n. Alone n) z) (away (inr refl) p h))
-        (λ (z : first - most < first). keeps first Missing most (shortened_some first (first - most) (λ n. Alone n) z) (omega arith))
+        (λ (z : first ≤ first - most). keeps first None most (shortened_none first (first - most) alone z) (away (inr refl) p (omega arith)))
+        (λ (z : first - most < first). keeps first None most (shortened_some first (first - most) alone z) (omega arith))
         (either first (first - most))
-    cut OnlySecond p h = away (inl refl) p h
+    cut OnlySecond p h = away (inl refl) p (omega arith)
 
-    go : (a : Bool) → eqb most 0 ≡ a → (b : Bool) → leb first most ≡ b → (s : Strategy) → KeepsRows first Missing most (cond a (Alone 0) (cond b (Alone first) (cut_alone s first (first - most))))
+    go : (a : Bool) → eqb most 0 ≡ a → (b : Bool) → leb first most ≡ b → (s : Strategy) → KeepsRows first None most (cond a (Ok (alone 0)) (cond b (Ok (alone first)) (cut_alone s first (first - most))))
     go true z b e s = omega (arith, eqb-true most 0 z)
     go false z true e s = omega (arith, leb-true first most e)
     go false z false e s = cut s (pos_of_ne-zero (eqb-false most 0 z)) (leb-false first most e)
 
-pub both_keep : (first second most : ℕ) (s : Strategy) → KeepsRows first (Rows second) most (kept_both first second most s)
+pub both_keep : (first second most : ℕ) (s : Strategy) → KeepsRows first (Some second) most (kept_both first second most s)
 unfolding kept_both
 both_keep first second most s = go (eqb most 0) refl (leb (first + second) most) refl s
   where
-    cut : (s : Strategy) → 0 < most → most < first + second → KeepsRows first (Rows second) most (cut_both s first second most (first + second - most))
+    cut : (s : Strategy) → 0 < most → most < first + second → KeepsRows first (Some second) most (cut_both s first second most (first + second - most))
     cut LongestFirst p h =
         ⊎_elim
         (λ (z : first ≤ second).
         let t = shares first second most z h in
-        keeps first (Rows second) most (longest_first first second most (first + second - most) z) (record { first_no_more = t.shorter_no_more; second_no_more = t.longer_no_more; together = omega (arith, t.make_up) }))
+        keeps first (Some second) most (longest_first first second most (first + second - most) z) (record { first_no_more = t.shorter_no_more; second_no_more = t.longer_no_more; together = omega (arith, t.make_up) }))
         (λ (z : second < first).
         let t = shares second first most (omega arith) (omega arith) in
-        keeps first (Rows second) most (longest_second first second most (first + second - most) z) (record { first_no_more = t.longer_no_more; second_no_more = t.shorter_no_more; together = omega (arith, t.make_up) }))
+        keeps first (Some second) most (longest_second first second most (first + second - most) z) (record { first_no_more = t.longer_no_more; second_no_more = t.shorter_no_more; together = omega (arith, t.make_up) }))
         (either first second)
     cut OnlyFirst p h =
         ⊎_elim
-        (λ (z : first ≤ first + second - most). keeps first (Rows second) most (shortened_none first (first + second - most) (λ n. Both n second) z) (away (inr refl) p h))
-        (λ (z : first + second - most < first). keeps first (Rows second) most (shortened_some first (first + second - most) (λ n. Both n second) z) (record { first_no_more = omega arith; second_no_more = omega arith; together = omega arith }))
+        (λ (z : first ≤ first + second - most). keeps first (Some second) most (shortened_none first (first + second - most) (λ n. both n second) z) (away (inr refl) p h))
+        (λ (z : first + second - most < first). keeps first (Some second) most (shortened_some first (first + second - most) (λ n. both n second) z) (record { first_no_more = omega arith; second_no_more = omega arith; together = omega arith }))
         (either first (first + second - most))
     cut OnlySecond p h =
         ⊎_elim
-        (λ (z : second ≤ first + second - most). keeps first (Rows second) most (shortened_none second (first + second - most) (λ n. Both first n) z) (away (inr refl) p h))
-        (λ (z : first + second - most < second). keeps first (Rows second) most (shortened_some second (first + second - most) (λ n. Both first n) z) (record { first_no_more = omega arith; second_no_more = omega arith; together = omega arith }))
+        (λ (z : second ≤ first + second - most). keeps first (Some second) most (shortened_none second (first + second - most) (both first) z) (away (inr refl) p h))
+        (λ (z : first + second - most < second). keeps first (Some second) most (shortened_some second (first + second - most) (both first) z) (record { first_no_more = omega arith; second_no_more = omega arith; together = omega arith }))
         (either second (first + second - most))
 
-    go : (a : Bool) → eqb most 0 ≡ a → (b : Bool) → leb (first + second) most ≡ b → (s : Strategy) → KeepsRows first (Rows second) most (cond a (Both 0 0) (cond b (Both first second) (cut_both s first second most (first + second - most))))
+    go : (a : Bool) → eqb most 0 ≡ a → (b : Bool) → leb (first + second) most ≡ b → (s : Strategy) → KeepsRows first (Some second) most (cond a (Ok (both 0 0)) (cond b (Ok (both first second)) (cut_both s first second most (first + second - most))))
     go true z b e s = record { first_no_more = omega arith; second_no_more = omega arith; together = omega (arith, eqb-true most 0 z) }
     go false z true e s = record { first_no_more = omega arith; second_no_more = omega arith; together = omega (arith, leb-true (first + second) most e) }
     go false z false e s = cut s (pos_of_ne-zero (eqb-false most 0 z)) (leb-false (first + second) most e)
 
-pub lengths_keep : (first : ℕ) (second : Second) (most : ℕ) (s : Strategy) → KeepsRows first second most (kept_lengths first second most s)
-lengths_keep first Missing most s = alone_keeps first most s
-lengths_keep first (Rows second) most s = both_keep first second most s
+pub lengths_keep : (first : ℕ) (second : Option ℕ) (most : ℕ) (s : Strategy) → KeepsRows first second most (kept_lengths first second most s)
+lengths_keep first None most s = alone_keeps first most s
+lengths_keep first (Some second) most s = both_keep first second most s
 
 -- ---- The numbers of a refusal
 

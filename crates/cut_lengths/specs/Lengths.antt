@@ -1,16 +1,13 @@
 -- How many rows each of a pair keeps (document 01, "Truncate pair": "the three strategies as written").
 -- Assumes nothing: these are definitions.
-use Rattle.std.specs.Prelude.{◌≡◌, cond, ◌⊎◌, ℕ, ◌+◌, ◌-◌, ◌/◌, ◌%◌, ◌<◌, max, leb, ltb, eqb, length}
-use Rattle.std.proofs.Math.Option.{Option, none as nothing, some}
+use Rattle.std.specs.Prelude.{◌≡◌, cond, ◌⊎◌, ℕ, ◌+◌, ◌-◌, ◌/◌, ◌%◌, ◌<◌, max, leb, ltb, eqb, length, Option, Some, None, Result, Ok, Err}
+use Rattle.std.proofs.Math.Option as maybe
 use Rattle.record.specs.Tree.{Encoding}
 use Rattle.record.specs.declared.Refusal.{Refusal}
 use Rattle.record.specs.declared.Refusal.TheVariants.{SecondMissing, TooShort}
 use Rattle.cut_lengths.specs.declared.Strategy.{Strategy}
 use Rattle.cut_lengths.specs.declared.Strategy.TheVariants.{LongestFirst, OnlyFirst, OnlySecond}
-use Rattle.cut_lengths.specs.declared.Second.{Second}
-use Rattle.cut_lengths.specs.declared.Second.TheVariants.{Missing, Rows}
 use Rattle.cut_lengths.specs.declared.Kept.{Kept}
-use Rattle.cut_lengths.specs.declared.Kept.TheVariants.{Refused, Alone, Both}
 
 -- ---- The longest first
 
@@ -27,40 +24,47 @@ longer_share n most = cond (ltb most (n + left_beside n most)) (most / 2 + most 
 
 -- ---- One encoding, and two
 
+-- the rows kept of the only encoding, or of both
+abbrev pub alone : ℕ → Kept
+alone n = record { first = n; second = None }
+
+abbrev pub both : ℕ → ℕ → Kept
+both n m = record { first = n; second = Some m }
+
 -- "5 if the target is no longer than what must go"; else it keeps the rest
-abbrev pub shortened : ℕ → ℕ → (ℕ → Kept) → Kept
-shortened target remove keep = cond (ltb remove target) (keep (target - remove)) (Refused TooShort)
+abbrev pub shortened : ℕ → ℕ → (ℕ → Kept) → Result Kept Refusal
+shortened target remove keep = cond (ltb remove target) (Ok (keep (target - remove))) (Err TooShort)
 
 -- "Max length 0 truncates both to 0; a total within it changes nothing; then the three strategies as written."
 -- "4 and 5 only if something must be removed and the max length is not 0"
-abbrev pub cut_alone : Strategy → ℕ → ℕ → Kept
-cut_alone LongestFirst first remove = Alone (first - remove)
-cut_alone OnlyFirst first remove = shortened first remove (λ n. Alone n)
-cut_alone OnlySecond first remove = Refused SecondMissing
+abbrev pub cut_alone : Strategy → ℕ → ℕ → Result Kept Refusal
+cut_alone LongestFirst first remove = Ok (alone (first - remove))
+cut_alone OnlyFirst first remove = shortened first remove alone
+cut_alone OnlySecond first remove = Err SecondMissing
 
-unfoldable pub kept_alone : ℕ → ℕ → Strategy → Kept
-kept_alone first most strategy = cond (eqb most 0) (Alone 0) (cond (leb first most) (Alone first) (cut_alone strategy first (first - most)))
+unfoldable pub kept_alone : ℕ → ℕ → Strategy → Result Kept Refusal
+kept_alone first most strategy = cond (eqb most 0) (Ok (alone 0)) (cond (leb first most) (Ok (alone first)) (cut_alone strategy first (first - most)))
 
-abbrev pub cut_both : Strategy → ℕ → ℕ → ℕ → ℕ → Kept
+abbrev pub cut_both : Strategy → ℕ → ℕ → ℕ → ℕ → Result Kept Refusal
 cut_both LongestFirst first second most remove =
-    cond (ltb second first) (Both (longer_share second most) (shorter_share second most)) (Both (shorter_share first most) (longer_share first most))
-cut_both OnlyFirst first second most remove = shortened first remove (λ n. Both n second)
-cut_both OnlySecond first second most remove = shortened second remove (λ n. Both first n)
+    cond (ltb second first) (Ok (both (longer_share second most) (shorter_share second most))) (Ok (both (shorter_share first most) (longer_share first most)))
+cut_both OnlyFirst first second most remove = shortened first remove (λ n. both n second)
+cut_both OnlySecond first second most remove = shortened second remove (both first)
 
-unfoldable pub kept_both : ℕ → ℕ → ℕ → Strategy → Kept
+unfoldable pub kept_both : ℕ → ℕ → ℕ → Strategy → Result Kept Refusal
 kept_both first second most strategy =
-    cond (eqb most 0) (Both 0 0)
-    (cond (leb (first + second) most) (Both first second)
+    cond (eqb most 0) (Ok (both 0 0))
+    (cond (leb (first + second) most) (Ok (both first second))
     (cut_both strategy first second most (first + second - most)))
 
-abbrev pub kept_lengths : ℕ → Second → ℕ → Strategy → Kept
-kept_lengths first Missing most strategy = kept_alone first most strategy
-kept_lengths first (Rows second) most strategy = kept_both first second most strategy
+abbrev pub kept_lengths : ℕ → Option ℕ → ℕ → Strategy → Result Kept Refusal
+kept_lengths first None most strategy = kept_alone first most strategy
+kept_lengths first (Some second) most strategy = kept_both first second most strategy
 
 -- the row count of the second encoding, if there is one
-abbrev pub rows_of_second : Option Encoding → Second
-rows_of_second nothing = Missing
-rows_of_second (some F) = Rows (length F.rows)
+abbrev pub rows_of_second : maybe.Option Encoding → Option ℕ
+rows_of_second maybe.none = None
+rows_of_second (maybe.some F) = Some (length F.rows)
 
 -- ---- When they are refused
 

@@ -1,7 +1,7 @@
 // How many rows each of a pair keeps (document 01, "Truncate pair"). Every function answers for all numbers of 32 bits.
 #![tactic(auto)]
 
-ghost use Rattle.std.specs.Prelude.{◌≡◌, ◌+◌, leb};
+ghost use Rattle.std.specs.Prelude.{◌≡◌};
 ghost use Rattle.cut_lengths.specs.Lengths.{kept_lengths, kept_alone, kept_both, shorter_share, longer_share};
 
 use record::Refusal;
@@ -14,103 +14,100 @@ pub enum Strategy {
     OnlySecond,
 }
 
-// The row count of the second of a pair, if there is one.
+// How many rows are kept of the first, and of the second if there is one.
 #[derive(Clone, Copy)]
-pub enum Second {
-    Missing,
-    Rows(u32),
-}
-
-// How many rows are kept: refused, or of the only encoding, or of both.
-#[derive(Clone, Copy)]
-pub enum Kept {
-    Refused(Refusal),
-    Alone(u32),
-    Both(u32, u32),
+pub struct Kept {
+    pub first: u32,
+    pub second: Option<u32>,
 }
 
 // How many rows each of a pair keeps, so that they have at most max_length together. An encoding that is not cut keeps
 // the rows it has. Refuses 4 where the second is to be cut and missing, 5 where the one to be cut is too short.
-pub fn kept_lengths(first: u32, second: Second, max_length: u32, strategy: Strategy) -> Kept
+pub fn kept_lengths(
+    first: u32,
+    second: Option<u32>,
+    max_length: u32,
+    strategy: Strategy,
+) -> Result<Kept, Refusal>
     ensures { result ≡ kept_lengths first second max_length strategy }
 {
     match second {
-        Second::Missing => kept_alone(first, max_length, strategy),
-        Second::Rows(rows) => kept_both(first, rows, max_length, strategy),
+        None => kept_alone(first, max_length, strategy),
+        Some(rows) => kept_both(first, rows, max_length, strategy),
     }
 }
 
-fn kept_alone(first: u32, most: u32, strategy: Strategy) -> Kept
+#[tactic(auto, unfolding(crate::specs::Lengths::kept_alone))]
+fn kept_alone(first: u32, most: u32, strategy: Strategy) -> Result<Kept, Refusal>
     ensures { result ≡ kept_alone first most strategy }
 {
+    let whole = Kept {
+        first,
+        second: None,
+    };
     if most == 0 {
-        return Kept::Alone(0);
+        return Ok(Kept { first: 0, ..whole });
     }
     if first <= most {
-        return Kept::Alone(first);
+        return Ok(whole);
     }
     match strategy {
-        Strategy::LongestFirst => Kept::Alone(most),
-        Strategy::OnlyFirst => Kept::Alone(most),
-        Strategy::OnlySecond => Kept::Refused(Refusal::SecondMissing),
+        Strategy::LongestFirst | Strategy::OnlyFirst => Ok(Kept {
+            first: most,
+            ..whole
+        }),
+        Strategy::OnlySecond => Err(Refusal::SecondMissing),
     }
 }
 
-fn kept_both(first: u32, second: u32, most: u32, strategy: Strategy) -> Kept
+#[tactic(auto, unfolding(crate::specs::Lengths::kept_both))]
+fn kept_both(first: u32, second: u32, most: u32, strategy: Strategy) -> Result<Kept, Refusal>
     ensures { result ≡ kept_both first second most strategy }
 {
+    let whole = Kept {
+        first,
+        second: Some(second),
+    };
     if most == 0 {
-        return Kept::Both(0, 0);
+        return Ok(Kept {
+            first: 0,
+            second: Some(0),
+        });
     }
-    if within(first, second, most) {
-        return Kept::Both(first, second);
+    if first as u64 + second as u64 <= most as u64 {
+        return Ok(whole);
     }
     match strategy {
-        Strategy::LongestFirst => {
-            if second < first {
-                return Kept::Both(longer_share(second, most), shorter_share(second, most));
-            }
-            Kept::Both(shorter_share(first, most), longer_share(first, most))
-        }
-        Strategy::OnlyFirst => {
-            if second < most {
-                return Kept::Both(most - second, second);
-            }
-            Kept::Refused(Refusal::TooShort)
-        }
-        Strategy::OnlySecond => {
-            if first < most {
-                return Kept::Both(first, most - first);
-            }
-            Kept::Refused(Refusal::TooShort)
-        }
+        Strategy::LongestFirst if second < first => Ok(Kept {
+            first: longer_share(second, most),
+            second: Some(shorter_share(second, most)),
+        }),
+        Strategy::LongestFirst => Ok(Kept {
+            first: shorter_share(first, most),
+            second: Some(longer_share(first, most)),
+        }),
+        Strategy::OnlyFirst if second < most => Ok(Kept {
+            first: most - second,
+            ..whole
+        }),
+        Strategy::OnlySecond if first < most => Ok(Kept {
+            second: Some(most - first),
+            ..whole
+        }),
+        _ => Err(Refusal::TooShort),
     }
-}
-
-// Whether two row counts together are within most.
-fn within(first: u32, second: u32, most: u32) -> bool
-    ensures { result ≡ leb (first + second) most }
-{
-    if first <= most {
-        return second <= most - first;
-    }
-    false
 }
 
 // What the shorter of two, with so many rows, keeps of most: all its rows, or half.
 fn shorter_share(rows: u32, most: u32) -> u32
     ensures { result ≡ shorter_share rows most }
 {
-    if rows <= most / 2 { rows } else { most / 2 }
+    rows.min(most / 2)
 }
 
 // What the longer one keeps beside it: the rest.
 fn longer_share(rows: u32, most: u32) -> u32
     ensures { result ≡ longer_share rows most }
 {
-    if rows <= most / 2 {
-        most - rows
-    } else {
-        most / 2 + most % 2
-    }
+    most - shorter_share(rows, most)
 }
