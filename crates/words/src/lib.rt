@@ -13,16 +13,7 @@ pub fn word_at(bytes: &[u8], at: usize) -> u32
     requires { at + word_bytes ≤ length bytes.now }
     ensures { result ≡ word_at (drop at bytes.now) }
 {
-    let low = wide(bytes[at]) + wide(bytes[at + 1]) * 0x100;
-    let high = wide(bytes[at + 2]) + wide(bytes[at + 3]) * 0x100;
-    low + high * 0x1_0000
-}
-
-// A byte as a number to count with. A cast of an element asks that it fits; this promises it.
-fn wide(byte: u8) -> u32
-    ensures { (result ≡ byte) × (result ≤ 255) }
-{
-    byte as u32
+    u32::from_le_bytes([bytes[at], bytes[at + 1], bytes[at + 2], bytes[at + 3]])
 }
 
 // So many words, one after another from the first byte on, put at the start of `out`.
@@ -30,9 +21,7 @@ pub fn read_words(bytes: &[u8], out: &mut [u32], count: usize)
     requires { (count * word_bytes ≤ length bytes.now) × (count ≤ length out.old) }
     ensures { out.new ≡ sets out.old 0 (words_at count bytes.now) }
 {
-    let mut i = 0;
-    while i < count {
+    for i in 0..count {
         out[i] = word_at(bytes, i * WORD);
-        i += 1;
     }
 }

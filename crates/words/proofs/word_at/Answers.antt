@@ -4,6 +4,4 @@ use Rattle.words.proofs.Words.{word_bytes_lem}
 use Rattle.words.proofs.word_at.Goals as goal
 
 pub returns : goal.returns
-returns c =
-    let v = c.args in
-    omega (arith, word_bytes_lem v.bytes.now v.at, c.wide-4.ensures.0, c.wide-3.ensures.0, c.wide-2.ensures.0, c.wide.ensures.0)
+returns c = let v = c.args in omega (arith, word_bytes_lem v.bytes.now v.at, c.from_le_bytes.ensures)
