@@ -36,11 +36,12 @@ pub fn append_node(
 {
     let k = p.node;
     let shift = out_nodes[0];
+    let added = p_nodes[k];
     let count = shift as usize;
-    let p_count = p_nodes[k] as usize;
+    let p_count = added as usize;
     let size = count * Encoding::ROW_WIDTH;
     let base = join_rows::base_of(out_rows, 0, count, growing);
-    out_nodes[0] = shift + p_nodes[k];
+    out_nodes[0] = shift + added;
     join_ranges::lay_ranges(out_nodes, 0, shift, p_nodes, k, view);
     join_rows::copy_moved(p_rows, p.row, p_count, base, view, out_rows, size);
 }

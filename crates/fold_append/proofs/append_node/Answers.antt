@@ -1,6 +1,5 @@
 -- `append_node` adds the row count, lays P's ranges over S's, and copies P's rows after S's. Assumes nothing.
-use mathlib.Core.Path.{◌∙◌}
-use lib.ListN.{length-set}
+use mathlib.Core.Path.{refl}
 use Rattle.join_ranges.proofs.Nodes.{node_count_lem, here_node, own_inside}
 use Rattle.fold_append.proofs.Appending.{asks_ranges, rows_room, asks_rows, appends}
 use native.Mathlib.Omega.{arith}
@@ -15,19 +14,10 @@ offset_bounds-p_nodes-k c = omega (arith, (here_node c.requires.here_p).inside)
 pub bounds-p_nodes-k : goal.bounds-p_nodes-k
 bounds-p_nodes-k c = omega (arith, (here_node c.requires.here_p).inside)
 
-pub overflow_mul-size : goal.overflow_mul-size
-overflow_mul-size c = omega (arith, rows_room c.requires c.wide-count.ensures c.wide-p_count.ensures)
-
 pub base_of-base-requires : goal.base_of-base-requires
 base_of-base-requires c =
     let s = c.requires.here_s in
-    omega (arith, own_inside s, c.wide-count.ensures, node_count_lem (here_node s))
-
-pub offset_bounds-p_nodes-k-2 : goal.offset_bounds-p_nodes-k-2
-offset_bounds-p_nodes-k-2 c = omega (arith, (here_node c.requires.here_p).inside)
-
-pub bounds-p_nodes-k-2 : goal.bounds-p_nodes-k-2
-bounds-p_nodes-k-2 c = omega (arith, (here_node c.requires.here_p).inside)
+    omega (arith, own_inside s, node_count_lem (here_node s))
 
 pub overflow_add-out_nodes : goal.overflow_add-out_nodes
 overflow_add-out_nodes c =
@@ -42,8 +32,8 @@ lay_ranges-requires c = asks_ranges c.requires
 
 pub copy_moved-requires : goal.copy_moved-requires
 copy_moved-requires c =
-    (asks_rows c.requires c.wide-count.ensures c.wide-p_count.ensures c.base_of-base.ensures, omega (arith, rows_room c.requires c.wide-count.ensures c.wide-p_count.ensures))
+    (asks_rows c.requires refl refl c.base_of-base.ensures, omega (arith, rows_room c.requires refl refl))
 
 pub returns : goal.returns
 returns c =
-    appends c.args.growing c.base_of-base.ensures c.wide-count.ensures c.wide-p_count.ensures c.lay_ranges.ensures c.copy_moved.ensures
+    appends c.args.growing c.base_of-base.ensures refl refl c.lay_ranges.ensures c.copy_moved.ensures
