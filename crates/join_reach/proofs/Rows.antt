@@ -1,6 +1,6 @@
 -- Rows that stand at a place: the last one's offset end, and the walk that finds the largest offset of them all.
 -- Assumes nothing.
-use mathlib.Core.Path.{◌≡◌, refl, sym, ap, ◌∙◌}
+use mathlib.Core.Path.{◌≡◌, refl, sym, ap, subst, ◌∙◌}
 use Prim.Native.Nat.{ℕ, suc, ◌+◌, ◌*◌, ◌-◌, ◌≤◌, ◌<◌, max}
 use native.Mathlib.Omega.{arith}
 use mathlib.Core.List.{List, [], ◌∷◌, flat_map}
@@ -58,16 +58,16 @@ pub record Scanned (rows : List ℕ) (R : List Row) (left row largest : ℕ) : T
 pub scanned_start : {rows : List ℕ} {j count : ℕ} {R : List Row} → RowsFrom rows j count R → Scanned rows R count j 0
 scanned_start {rows} {j} {count} {R} h = record { to_come = R; from = h; all = omega arith }
 
-pub scanned_turn : {rows : List ℕ} {R : List Row} {left row largest : ℕ} → Scanned rows R left row largest → 0 < left → Scanned rows R (left - 1) (row + row_width) (max largest (max (get_or rows (row + 7) 0) (get_or rows (row + 8) 0)))
+pub scanned_turn : {rows : List ℕ} {R : List Row} {left row largest : ℕ} (left' row' : ℕ) → Scanned rows R left row largest → 0 < left → left' ≡ left - 1 → row' ≡ row + row_width → Scanned rows R left' row' (max largest (max (get_or rows (row + 7) 0) (get_or rows (row + 8) 0)))
 unfolding largest_offset
-scanned_turn {rows} {R} {left} {row} {largest} s k = go s.to_come s.from s.all
+scanned_turn {rows} {R} {left} {row} {largest} left' row' s k fewer further = go s.to_come s.from s.all
   where
-    go : (l : List Row) → RowsFrom rows row left l → largest_offset R ≡ max largest (largest_offset l) → Scanned rows R (left - 1) (row + row_width) (max largest (max (get_or rows (row + 7) 0) (get_or rows (row + 8) 0)))
+    go : (l : List Row) → RowsFrom rows row left l → largest_offset R ≡ max largest (largest_offset l) → Scanned rows R left' row' (max largest (max (get_or rows (row + 7) 0) (get_or rows (row + 8) 0)))
     go [] h e = absurd (omega (arith, h.counts))
     go (r ∷ l) h e =
         record {
           to_come = l;
-          from = record { there = rows_after h.there; counts = omega (arith, h.counts) };
+          from = record { there = subst (λ (n : ℕ). RowsAt rows n l) (sym further) (rows_after h.there); counts = omega (arith, h.counts) };
           all = omega (arith, row_start h.there, row_end h.there);
         }
 

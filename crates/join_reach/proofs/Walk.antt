@@ -44,12 +44,12 @@ unfolding largest
 chained_largest number none x = omega arith
 chained_largest number (node r q w y) x = omega (arith, chained_largest number y x)
 
--- ---- The node that is next
+-- ---- The nodes that are next
+
+pub nodes_long : {nodes rows : List ℕ} {i j count : ℕ} {f : Forest} → NodesFrom nodes rows i j count f → 0 < count → i + count * node_width ≤ length nodes
+nodes_long {nodes} {rows} {i} {j} {count} {f} h k = omega (arith, h.counts, ap length h.at.is, length-drop i nodes, length-append (flat_nodes f) h.at.rest, length_nodes f h.fine)
 
 module _ {nodes rows : List ℕ} {i j count : ℕ} {r : List Row} {q : List Range} {w x : Forest} (h : NodesFrom nodes rows i j count (node r q w x)) where
-  node_long : i + node_width ≤ length nodes
-  node_long = omega (arith, ap length h.at.is, length-drop i nodes, length-append (flat_nodes (node r q w x)) h.at.rest, length_nodes (node r q w x) h.fine)
-
   own_long : j + length r * row_width ≤ length rows
   own_long = omega (arith, h.on, ap length h.at.is_rows, length-drop j rows, length-append (flat_rows (node r q w x)) h.at.rest_rows, length_rows (node r q w x))
 
@@ -83,29 +83,26 @@ pub record Walked (nodes rows : List ℕ) (f : Forest) (left at_node row most : 
 pub walked_start : {nodes rows : List ℕ} {i j count : ℕ} {f : Forest} → NodesFrom nodes rows i j count f → Walked nodes rows f count i j 0
 walked_start {nodes} {rows} {i} {j} {count} {f} h = record { to_come = f; from = h; all = omega arith }
 
--- one turn: the next node fits, and so do its rows, R; and the walk after it
-pub record Turn (nodes rows : List ℕ) (f : Forest) (left at_node row most : ℕ) : Type 0 where
+-- one turn: the rows of the next node, R, fit; and the walk after it
+pub record Turn (nodes rows : List ℕ) (f : Forest) (at_node row most left' node' : ℕ) : Type 0 where
   pub R : List Row
-  pub long : at_node + node_width ≤ length nodes
   pub rows_fit : row + get_or nodes at_node 0 * row_width ≤ length rows
   pub own : RowsFrom rows row (get_or nodes at_node 0) R
-  pub after : Walked nodes rows f (left - 1) (at_node + node_width) (row + get_or nodes at_node 0 * row_width) (max most (last_end 0 R))
+  pub after : Walked nodes rows f left' node' (row + get_or nodes at_node 0 * row_width) (max most (last_end 0 R))
 
-pub walked_turn : {nodes rows : List ℕ} {f : Forest} {left at_node row most : ℕ} → Walked nodes rows f left at_node row most → 0 < left → Turn nodes rows f left at_node row most
+pub walked_turn : {nodes rows : List ℕ} {f : Forest} {left at_node row most : ℕ} (left' node' : ℕ) → Walked nodes rows f left at_node row most → 0 < left → left' ≡ left - 1 → node' ≡ at_node + node_width → Turn nodes rows f at_node row most left' node'
 unfolding largest
-walked_turn {nodes} {rows} {f} {left} {at_node} {row} {most} s k = go s.to_come s.from s.all
+walked_turn {nodes} {rows} {f} {left} {at_node} {row} {most} left' node' s k fewer further = go s.to_come s.from s.all
   where
-    go : (y : Forest) → NodesFrom nodes rows at_node row left y → largest_base f ≡ max most (largest_base y) → Turn nodes rows f left at_node row most
+    go : (y : Forest) → NodesFrom nodes rows at_node row left y → largest_base f ≡ max most (largest_base y) → Turn nodes rows f at_node row most left' node'
     go none h e = absurd (omega (arith, h.counts))
     go (node r q w x) h e =
         let size : get_or nodes at_node 0 ≡ length r = at_size h.at in
         record {
           R = r;
-          long = node_long h;
           rows_fit = rw size (own_long h);
           own = subst (λ (n : ℕ). RowsFrom rows row n r) (sym size) (own_rows_lem h);
-          after = subst (λ (n : ℕ). Walked nodes rows f (left - 1) (at_node + node_width) (row + n * row_width) (max most (last_end 0 r))) (sym size)
-              (record { to_come = chained w x; from = others h; all = omega (arith, chained_largest (last_end 0) w x) });
+          after = rw (size, fewer, further) (record { to_come = chained w x; from = others h; all = omega (arith, chained_largest (last_end 0) w x) });
         }
 
 pub walked_end : {nodes rows : List ℕ} {f : Forest} {left at_node row most : ℕ} → Walked nodes rows f left at_node row most → left ≡ 0 → most ≡ largest_base f

@@ -23,16 +23,12 @@ pub fn largest_base(nodes: &[u32], i: usize, count: usize, rows: &[u32], j: usiz
     requires { (f : Forest) × NodesFrom nodes.now rows.now i j count f }
     ensures { (f : Forest) → NodesFrom nodes.now rows.now i j count f → result ≡ largest_base f }
 {
-    let mut left = count;
-    let mut node = i;
     let mut row = j;
     let mut largest: u32 = 0;
-    while left > 0 {
-        let n = nodes[node] as usize;
+    for k in 0..count {
+        let n = nodes[i + k * Encoding::NODE_WIDTH] as usize;
         largest = largest.max(last_end(rows, row, n));
         row += n * Encoding::ROW_WIDTH;
-        node += Encoding::NODE_WIDTH;
-        left -= 1;
     }
     largest
 }
@@ -53,14 +49,11 @@ pub fn largest_offset(rows: &[u32], j: usize, count: usize) -> u32
     requires { (R : List Row) × RowsFrom rows.now j count R }
     ensures { (R : List Row) → RowsFrom rows.now j count R → result ≡ largest_offset R }
 {
-    let mut left = count;
-    let mut row = j;
     let mut largest: u32 = 0;
-    while left > 0 {
+    for k in 0..count {
+        let row = j + k * Encoding::ROW_WIDTH;
         let own = rows[row + Column::OFFSET_START].max(rows[row + Column::OFFSET_END]);
         largest = largest.max(own);
-        row += Encoding::ROW_WIDTH;
-        left -= 1;
     }
     largest
 }
@@ -89,15 +82,12 @@ fn bound_of_few(rows: &[u32], j: usize, count: usize) -> u32
     requires { (R : List Row) × RowsFrom rows.now j count R }
     ensures { (R : List Row) → RowsFrom rows.now j count R → largest_offset R ≤ result }
 {
-    let mut left = count;
-    let mut row = j;
     let mut starts: u32 = 0;
     let mut ends: u32 = 0;
-    while left > 0 {
+    for k in 0..count {
+        let row = j + k * Encoding::ROW_WIDTH;
         starts = starts | rows[row + Column::OFFSET_START];
         ends = ends | rows[row + Column::OFFSET_END];
-        row += Encoding::ROW_WIDTH;
-        left -= 1;
     }
     starts | ends
 }

@@ -7,7 +7,6 @@ use Rattle.join_reach.proofs.Rows.{rows_long, last_end_none, last_end_stored}
 use Rattle.join_reach.proofs.last_end.Goals as goal
 use Rattle.join_reach.proofs.last_end.Lts as Lts
 use Rattle.join_reach.proofs.last_end.Reads as Reads
-use Rattle.join_reach.proofs.last_end.Tie as tie
 
 -- ---- Places in the code
 
