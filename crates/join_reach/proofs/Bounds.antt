@@ -65,8 +65,8 @@ with_more : (rows : List ℕ) (place at n r : ℕ) → get_or rows at 0 ≤ r �
 with_more rows place at n r h e = subst (λ (i : ℕ). get_or rows i 0 ≤ bit_or n r) e (omega (arith, h, right_within n r))
 
 -- the bits of what the bounds were and of bounds of four rows' offsets
-pub bounded_four : {rows : List ℕ} {R : List Row} {left row starts ends m n : ℕ} → Bounded rows R left row starts ends → 4 ≤ left → BoundsFour rows (row + 7) m → BoundsFour rows (row + 8) n → Bounded rows R (left - 4) (row + 4 * row_width) (bit_or starts m) (bit_or ends n)
-bounded_four {rows} {R} {left} {row} {starts} {ends} {m} {n} b k hm hn =
+pub bounded_four : {rows : List ℕ} {R : List Row} {left row starts ends m n : ℕ} (left' row' : ℕ) → Bounded rows R left row starts ends → 4 ≤ left → left' ≡ left - 4 → row' ≡ row + 4 * row_width → BoundsFour rows (row + 7) m → BoundsFour rows (row + 8) n → Bounded rows R left' row' (bit_or starts m) (bit_or ends n)
+bounded_four {rows} {R} {left} {row} {starts} {ends} {m} {n} left' row' b k fewer further hm hn =
     let s = bit_or starts m in
     let e = bit_or ends n in
     let same : (s ≤ s) × (e ≤ e) = (omega arith, omega arith) in
@@ -76,7 +76,11 @@ bounded_four {rows} {R} {left} {row} {starts} {ends} {m} {n} b k hm hn =
     let one = bounded_turn (left - 1) second s e b (omega arith) refl refl (left_within starts m, left_within ends n) (with_more rows (row + 7) (row + 7) starts m hm.first refl) (with_more rows (row + 8) (row + 8) ends n hn.first refl) in
     let two = bounded_turn (left - 2) third s e one (omega arith) (omega arith) refl same (with_more rows (second + 7) (row + 7 + row_width) starts m hm.second (omega arith)) (with_more rows (second + 8) (row + 8 + row_width) ends n hn.second (omega arith)) in
     let three = bounded_turn (left - 3) fourth s e two (omega arith) (omega arith) refl same (with_more rows (third + 7) (row + 7 + 2 * row_width) starts m hm.third (omega arith)) (with_more rows (third + 8) (row + 8 + 2 * row_width) ends n hn.third (omega arith)) in
-    bounded_turn (left - 4) (row + 4 * row_width) s e three (omega arith) (omega arith) (omega arith) same (with_more rows (fourth + 7) (row + 7 + 3 * row_width) starts m hm.fourth (omega arith)) (with_more rows (fourth + 8) (row + 8 + 3 * row_width) ends n hn.fourth (omega arith))
+    bounded_turn left' row' s e three (omega arith) (omega arith) (omega arith) same (with_more rows (fourth + 7) (row + 7 + 3 * row_width) starts m hm.fourth (omega arith)) (with_more rows (fourth + 8) (row + 8 + 3 * row_width) ends n hn.fourth (omega arith))
+
+-- those to come, told by another count and another place
+pub still_to_come : {rows : List ℕ} {R : List Row} {left row starts ends : ℕ} (left' row' : ℕ) (b : Bounded rows R left row starts ends) → left' ≡ left → row' ≡ row → RowsFrom rows row' left' b.to_come
+still_to_come left' row' b same here = rw (same, here) b.from
 
 -- a bound of those to come bounds all, together with those of the others
 pub bounded_all : {rows : List ℕ} {R : List Row} {left row starts ends : ℕ} (few : ℕ) (b : Bounded rows R left row starts ends) → largest_offset b.to_come ≤ few → largest_offset R ≤ bit_or (bit_or starts ends) few

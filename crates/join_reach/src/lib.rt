@@ -64,17 +64,15 @@ pub fn offset_bound(rows: &[u32], j: usize, count: usize) -> u32
     requires { (R : List Row) × RowsFrom rows.now j count R }
     ensures { (R : List Row) → RowsFrom rows.now j count R → largest_offset R ≤ result }
 {
-    let mut left = count;
-    let mut row = j;
+    let fours = count / 4;
     let mut starts: u32 = 0;
     let mut ends: u32 = 0;
-    while left >= 4 {
+    for k in 0..fours {
+        let row = j + k * FOUR_ROWS;
         starts = starts | bound_of_four(rows, row + Column::OFFSET_START);
         ends = ends | bound_of_four(rows, row + Column::OFFSET_END);
-        row += FOUR_ROWS;
-        left -= 4;
     }
-    starts | ends | bound_of_few(rows, row, left)
+    starts | ends | bound_of_few(rows, j + fours * FOUR_ROWS, count % 4)
 }
 
 // The same, row by row.

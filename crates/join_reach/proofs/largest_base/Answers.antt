@@ -2,11 +2,10 @@
 -- Assumes nothing.
 use native.Mathlib.Omega.{arith}
 use native.Mathlib.Numerals.{unary_clauses}
-use Prim.Native.Nat.{◌+◌, ◌*◌, ◌-◌, max}
-use mathlib.Core.Path.{refl, sym, ap, subst, ◌∙◌}
-use lib.ListN.{get_or}
-use Rattle.record.specs.Flat.{row_width, node_width}
-use Rattle.join_reach.proofs.Walk.{Walked, nodes_long, walked_start, walked_turn, walked_end}
+use Prim.Native.Nat.{◌+◌, ◌*◌, ◌-◌}
+use mathlib.Core.Path.{refl}
+use Rattle.record.specs.Flat.{node_width}
+use Rattle.join_reach.proofs.Walk.{nodes_long, walked_start, walked_turn, walked_end}
 use Rattle.join_reach.proofs.largest_base.Goals as goal
 
 pub loop-k-init : goal.loop-k-init
@@ -22,8 +21,7 @@ loop-k-preserved c =
       inside = c.loop-k.invariant.inside;
       passed = λ f h.
           let u = walked_turn (c.args.count - (k + 1)) (c.args.i + (k + 1) * node_width) (c.loop-k.invariant.passed f h) (omega arith) (omega arith) (omega arith) in
-          let most = c.max-largest.ensures ∙ ap (max c.loop-k.largest) (c.last_end.ensures u.R u.own) in
-          subst (Walked c.args.nodes.now c.args.rows.now f (c.args.count - (k + 1)) (c.args.i + (k + 1) * node_width) (c.loop-k.row + get_or c.args.nodes.now (c.args.i + k * node_width) 0 * row_width)) (sym most) u.after;
+          rw (c.max-largest.ensures, c.last_end.ensures u.R u.own) u.after;
     }
 
 pub returns : goal.returns

@@ -2,10 +2,7 @@
 -- Assumes nothing.
 use native.Mathlib.Omega.{arith}
 use native.Mathlib.Numerals.{unary_clauses}
-use mathlib.Core.Path.{sym, ap, subst, ◌∙◌}
-use Prim.Native.Nat.{◌+◌, ◌*◌, ◌-◌, max}
-use Rattle.record.specs.Flat.{row_width}
-use Rattle.join_reach.proofs.Rows.{Scanned, rows_long, scanned_start, scanned_turn, scanned_end}
+use Rattle.join_reach.proofs.Rows.{rows_long, scanned_start, scanned_turn, scanned_end}
 use Rattle.join_reach.proofs.largest_offset.Goals as goal
 
 pub loop-k-init : goal.loop-k-init
@@ -13,12 +10,9 @@ loop-k-init c = record { inside = rows_long c.requires.1; passed = λ R h. simp 
 
 pub loop-k-preserved : goal.loop-k-preserved
 loop-k-preserved c =
-    let k = c.loop-k.k in
     record {
       inside = c.loop-k.invariant.inside;
-      passed = λ R h.
-          subst (Scanned c.args.rows.now R (c.args.count - (k + 1)) (c.args.j + (k + 1) * row_width)) (sym (c.max-largest.ensures ∙ ap (max c.loop-k.largest) c.max-own.ensures))
-          (scanned_turn _ _ (c.loop-k.invariant.passed R h) (omega arith) (omega arith) (omega arith));
+      passed = λ R h. rw (c.max-largest.ensures, c.max-own.ensures) (scanned_turn _ _ (c.loop-k.invariant.passed R h) (omega arith) (omega arith) (omega arith));
     }
 
 pub returns : goal.returns
