@@ -8,6 +8,7 @@ use lib.ListN.{length, set, replicate, length-set, length-replicate}
 use lib.Seq.{get_or-set_same, get_or-set_other}
 use borrow.Author.Count.{below_more}
 use Rattle.join_table.specs.Table.{at}
+use Rattle.join_table.specs.Promises.{Has}
 
 pub record Passed (n : ℕ) (new old : ℕ → ℕ) (l : List ℕ) (i : ℕ) : Type 0 where
   pub len : length l ≡ n
@@ -33,6 +34,10 @@ zeros (suc n) (suc k) = zeros n k
 
 pub filled_none : (n : ℕ) (new : ℕ → ℕ) → Passed n new (λ k. 0) (replicate n 0) 0
 filled_none n new = record { len = length-replicate n 0; done = λ k l. absurd (omega arith); left = λ k l. zeros n k }
+
+-- passed to the last
+pub passed_all : {n m i : ℕ} {new : ℕ → ℕ} {l : List ℕ} → Passed n new (λ k. 0) l i → i ≡ m + 1 → Has l m new
+passed_all p e = record { upto = λ k le. p.done k (omega arith); beyond = λ k lt. p.left k (omega arith) }
 
 pub fits_first : (x y : ℕ) {z : ℕ} → x + y < z → x < z
 fits_first x y l = omega arith

@@ -43,12 +43,10 @@ fn fill(
     ensures { Has result n (paired (at a) (at b) (at c) (at e)) }
 {
     let mut t = [0usize; TABLE];
-    let mut k = 0;
-    while k <= n {
+    for k in 0..=n {
         let i = k / LEVELS;
         let j = k % LEVELS;
         t[k] = a[i] * b[j] + c[i] * e[j];
-        k += 1;
     }
     t
 }
@@ -60,11 +58,9 @@ fn descend(table: [usize; TABLE], m: usize) -> [usize; LEVELS]
 {
     let mut t = table;
     let mut out = [0usize; LEVELS];
-    let mut d = 0;
-    while d <= m {
+    for d in 0..=m {
         out[d] = t[0];
         step(&mut t, DIAGONAL * (m - d));
-        d += 1;
     }
     out
 }
@@ -77,9 +73,7 @@ fn step(t: &mut [usize; TABLE], n: usize)
         ((k : ℕ) → k + suc level_count ≤ n → at t.new k ≡ at t.old (k + 1) + at t.old
         (k + level_count) + at t.old (k + suc level_count)) }
 {
-    let mut k = 0;
-    while k + DIAGONAL <= n {
+    for k in 0..n.saturating_sub(LEVELS) {
         t[k] = t[k + 1] + t[k + LEVELS] + t[k + DIAGONAL];
-        k += 1;
     }
 }

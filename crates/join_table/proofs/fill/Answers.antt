@@ -1,16 +1,15 @@
 -- `fill` meets its contract.
 -- Assumes nothing.
-use borrow.Author.Rules.{rules}
 use native.Mathlib.Omega.{arith}
 use mathlib.Core.Path.{refl}
-use Prim.Native.Nat.{◌*◌, ◌-◌}
+use Prim.Native.Nat.{◌*◌}
 use Rattle.join_table.specs.Table.{level_count, paired}
 use Rattle.join_table.proofs.Numbers.{product_fits}
-use Rattle.join_table.proofs.Passes.{passed_more, filled_none, fits_first, fits_second}
+use Rattle.join_table.proofs.Passes.{passed_more, passed_all, filled_none, fits_first, fits_second}
 use Rattle.join_table.proofs.fill.Goals as goal
 
 pub loop-k-init : goal.loop-k-init
-loop-k-init c = (search rules, filled_none (level_count * level_count) _)
+loop-k-init c = filled_none (level_count * level_count) _
 
 pub overflow_mul-t : goal.overflow_mul-t
 overflow_mul-t c = record { fits = fits_first _ _ (product_fits _ _ _ _ c.requires.1 c.loop-k.k) }
@@ -23,7 +22,11 @@ overflow_add-t c = record { fits = (product_fits _ _ _ _ c.requires.1 c.loop-k.k
 
 pub loop-k-preserved : goal.loop-k-preserved
 unfolding paired
-loop-k-preserved c = (search rules, passed_more _ c.loop-k.invariant.1 (omega arith) refl)
+loop-k-preserved c = passed_more _ c.loop-k.invariant (omega arith) refl
 
 pub returns : goal.returns
-returns c = record { upto = λ k l. c.loop-k.invariant.1.done k (omega arith); beyond = λ k l. c.loop-k.invariant.1.left k (omega arith) }
+returns c = passed_all c.loop-k.invariant (omega arith)
+
+pub returns-2 : goal.returns-2
+unfolding paired
+returns-2 c = passed_all (passed_more _ c.loop-k.invariant (omega arith) refl) (omega arith)

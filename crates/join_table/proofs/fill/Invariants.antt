@@ -1,12 +1,9 @@
 -- `fill` meets its contract.
 -- Assumes nothing.
-use Prim.Native.Nat.{◌+◌, ◌*◌, ◌-◌, ◌≤◌}
+use Prim.Native.Nat.{◌*◌}
 use Rattle.join_table.specs.Table.{level_count, at, paired}
 use Rattle.join_table.proofs.Passes.{Passed}
 use Rattle.join_table.proofs.fill.Given as goal
 
 abbrev pub invariant-loop-k : goal.invariant-loop-k
-invariant-loop-k l = (l.k ≤ l.n + 1) × Passed (level_count * level_count) (paired (at l.a) (at l.b) (at l.c) (at l.e)) (λ k. 0) l.t l.k
-
-abbrev pub decreases-loop-k : goal.decreases-loop-k
-decreases-loop-k l = l.n + 1 - l.k
+invariant-loop-k l = Passed (level_count * level_count) (paired (at l.a) (at l.b) (at l.c) (at l.e)) (λ k. 0) l.t l.k

@@ -1,12 +1,9 @@
 -- `step` meets its contract.
 -- Assumes nothing.
-use Prim.Native.Nat.{suc, ◌+◌, ◌*◌, ◌-◌, ◌≤◌}
+use Prim.Native.Nat.{suc, ◌+◌, ◌*◌}
 use Rattle.join_table.specs.Table.{level_count, at}
 use Rattle.join_table.proofs.Passes.{Passed}
 use Rattle.join_table.proofs.step.Given as goal
 
 abbrev pub invariant-loop-k : goal.invariant-loop-k
-invariant-loop-k l = (l.k ≤ l.n) × Passed (level_count * level_count) (λ k. at l.initial.t (k + 1) + at l.initial.t (k + level_count) + at l.initial.t (k + suc level_count)) (at l.initial.t) l.t l.k
-
-abbrev pub decreases-loop-k : goal.decreases-loop-k
-decreases-loop-k l = l.n - l.k
+invariant-loop-k l = Passed (level_count * level_count) (λ k. at l.initial.t (k + 1) + at l.initial.t (k + level_count) + at l.initial.t (k + suc level_count)) (at l.initial.t) l.t l.k
