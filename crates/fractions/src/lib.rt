@@ -31,10 +31,9 @@ fn gcd(first: u64, second: u64) -> u64
 {
     let mut a = first;
     let mut b = second;
+    // A while: how many steps there are depends on the remainders.
     while b != 0 {
-        let left = a % b;
-        a = b;
-        b = left;
+        (a, b) = (b, a % b);
     }
     a
 }

