@@ -34,6 +34,7 @@ pub fn lengthen(
     let mut i: usize = 0;
     let mut from: usize = 0;
     let mut to: usize = 0;
+    // A while: the next node is one node's width on, and a range's step is 1.
     while i < nodes.len() {
         let size = nodes[i];
         let own = size as usize * Encoding::ROW_WIDTH;
@@ -60,12 +61,9 @@ pub fn write_specials(
     ensures { out.new ≡ sets out.old to
         (flat_map row_numbers (special_rows members.now first count type_id)) }
 {
-    let mut k: usize = 0;
-    let mut at = to;
-    while k < count {
+    for k in 0..count {
+        let at = to + k * Encoding::ROW_WIDTH;
         record_write::write_row(out, at, special_row(members, first + k, type_id));
-        k += 1;
-        at += Encoding::ROW_WIDTH;
     }
 }
 
