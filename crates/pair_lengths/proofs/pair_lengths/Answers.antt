@@ -1,24 +1,14 @@
--- `pair_lengths` tells of each encoding what `kept_lengths` says that it keeps. Assumes nothing.
-use mathlib.Core.Path.{refl, sym, ap, ap₂, ◌∙◌}
-use Rattle.pair_lengths.specs.declared.PairLengths.TheVariants.{Refused, Alone, Both}
-use Rattle.pair_lengths.proofs.Keeps.{answers}
+-- What `pair_lengths` tells is what it is defined to be, so it keeps what is said of that. Assumes nothing.
+use native.Mathlib.Omega.{arith}
+use Rattle.std.proofs.lemmas.Grind.{common_steps}
+use Rattle.pair_lengths.specs.Lengths.{pair_lengths}
+use Rattle.pair_lengths.proofs.Keeps.{lengths_keep}
 use Rattle.pair_lengths.proofs.pair_lengths.Goals as goal
 
-pub returns-in-Refused : goal.returns-in-Refused
-returns-in-Refused c =
-    let v = c.args in
-    let p = answers v.first v.second v.max_length v.strategy {answer = Refused c.in-Refused.refusal} (sym c.in-Refused.is ∙ c.kept_lengths-kept.ensures) refl in
-    record { lengths = p.0; keeps = p.1 }
+pub returns-in_err-kept-clause-keeps : goal.returns-in_err-kept-clause-keeps
+unfolding pair_lengths
+returns-in_err-kept-clause-keeps c = let v = c.args in lengths_keep v.first v.second v.max_length v.strategy (grind (arith, common_steps))
 
-pub returns-in-Alone : goal.returns-in-Alone
-returns-in-Alone c =
-    let v = c.args in
-    let p = answers v.first v.second v.max_length v.strategy (sym c.in-Alone.is ∙ c.kept_lengths-kept.ensures) (ap Alone c.length_of.ensures) in
-    record { lengths = p.0; keeps = p.1 }
-
-pub returns-in-Both : goal.returns-in-Both
-returns-in-Both c =
-    let v = c.args in
-    let p = answers v.first v.second v.max_length v.strategy (sym c.in-Both.is ∙ c.kept_lengths-kept.ensures)
-    (ap₂ Both c.length_of-in-Both.ensures (rw c.second_rows.ensures at c.length_of-in-Both-2.ensures)) in
-    record { lengths = p.0; keeps = p.1 }
+pub returns-clause-keeps : goal.returns-clause-keeps
+unfolding pair_lengths
+returns-clause-keeps c = let v = c.args in lengths_keep v.first v.second v.max_length v.strategy (grind (arith, common_steps))
