@@ -5,7 +5,7 @@ use Rattle.record.specs.declared.Refusal.TheVariants.{MalformedRecord, NoRoom}
 use Rattle.record.proofs.One.{one_there, one_size, not_one}
 use Rattle.lookup_ranges.specs.Ranges.{get_sequence_ids}
 use Rattle.lookup_sequences.specs.Answers.{refused, done}
-use Rattle.lookup_sequences.specs.declared.ColumnAnswer.TheVariants.{Done}
+use Rattle.std.specs.Prelude.{Ok}
 use Rattle.lookup_ranges.proofs.Top.{top_there}
 use Rattle.lookup_sequences.proofs.Outcome.{ids_meet, ids_no_room, ids_done, ids_over}
 use native.Mathlib.Omega.{arith}
@@ -34,6 +34,6 @@ pub returns : goal.returns
 returns c =
     let (E, h) = one_there _ _ (sym c.is_one.ensures ∙ c.if-not-is_one.false) in
     let room = c.if-out-n.false in
-    let m = ids_meet _ (done (length E.rows) (get_sequence_ids E)) _ _ _ (ids_done h _ room) (ap Done (one_size h))
-    (ids_over h _ _ _ room c.fill.ensures (c.mark_ranges.ensures _ E h)) in
+    let m = ids_meet _ (done (length E.rows) (get_sequence_ids E)) _ _ _ (ids_done h _ room) (ap Ok (one_size h))
+    (ids_over h _ _ _ room (c.fill.ensures.after (λ y e. e)) (c.mark_ranges.ensures _ E h)) in
     record { answer = m.0; left = m.1 }

@@ -1,17 +1,17 @@
 -- `n_sequences` answers what `count_of` reads of the one encoding. Assumes nothing.
 use mathlib.Core.Path.{sym, ap, ◌∙◌}
 use Rattle.record.proofs.One.{not_one}
-use Rattle.lookup_sequences.specs.declared.CountAnswer.TheVariants.{Count}
+use Rattle.std.specs.Prelude.{Ok}
 use Rattle.lookup_ranges.proofs.Top.{top_there, top_answer}
 use Rattle.lookup_sequences.proofs.n_sequences.Goals as goal
 
 pub count_of-requires : goal.count_of-requires
-count_of-requires c = top_there _ _ (sym c.is_one.ensures ∙ c.if-is_one.true)
-
-pub returns-then-is_one : goal.returns-then-is_one
-returns-then-is_one c =
-    top_answer _ _ _ _ _ (sym c.is_one.ensures ∙ c.if-is_one.true)
-    (λ rows E h. ap Count (c.count_of.ensures rows E h))
+count_of-requires c = top_there _ _ (sym c.is_one.ensures ∙ c.if-not-is_one.false)
 
 pub returns : goal.returns
-returns c = sym (not_one _ _ _ (sym c.is_one.ensures ∙ c.if-is_one.false))
+returns c =
+    top_answer _ _ _ _ _ (sym c.is_one.ensures ∙ c.if-not-is_one.false)
+    (λ rows E h. ap Ok (c.count_of.ensures rows E h))
+
+pub returns-then-not-is_one : goal.returns-then-not-is_one
+returns-then-not-is_one c = sym (not_one _ _ _ (sym c.is_one.ensures ∙ c.if-not-is_one.true))
