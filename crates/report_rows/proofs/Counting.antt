@@ -8,6 +8,7 @@ use mathlib.Core.List.{List, [], ◌∷◌}
 use lib.Dec.{eqb}
 use lib.ListN.{length, get_or, drop}
 use lib.Seq.{get_or-drop}
+use Rattle.std.specs.Int.{from_bool}
 use Rattle.record.specs.Tree.{Row}
 use Rattle.record.specs.Flat.{row_width, row_at}
 use Rattle.record.specs.Read.{several}
@@ -52,17 +53,22 @@ module _ (such : ℕ → ℕ → Bool) (rows : List ℕ) (i : ℕ) where
   by_masks : one (such (get_or (drop (i * row_width) rows) 10 0) (get_or (drop (i * row_width) rows) 9 0)) ≡ one (such (attention_of rows i) (mask_of rows i))
   by_masks = ap₂ (λ (a m : ℕ). one (such a m)) (get_or-drop (i * row_width) rows 10 0) (get_or-drop (i * row_width) rows 9 0)
 
-pub counting_more : {rows : List ℕ} {padding special rest i a b c : ℕ} → Counting rows padding special rest i
-    → a ≡ one (eqb (attention_of rows i) 0)
-    → b ≡ one (not (eqb (attention_of rows i) 0) && not (eqb (mask_of rows i) 0))
-    → c ≡ one (not (eqb (attention_of rows i) 0) && eqb (mask_of rows i) 0)
-    → Counting rows (padding + a) (special + b) (rest + c) (i + 1)
+-- a test as a number to add
+told : (b : Bool) → from_bool b ≡ one b
+unfolding one
+told true = refl
+told false = refl
+
+pub counting_more : {rows : List ℕ} {padding special rest i : ℕ} → Counting rows padding special rest i
+    → let zero_attention = eqb (attention_of rows i) 0 in
+    let zero_mask = eqb (mask_of rows i) 0 in
+    Counting rows (padding + from_bool zero_attention) (special + from_bool (not zero_attention && not zero_mask)) (rest + from_bool (not zero_attention && zero_mask)) (i + 1)
 unfolding row_at
-counting_more {rows} {i = i} k p q r =
+counting_more {rows} {i = i} k =
     record {
-      padding_is = ap₂ ◌+◌ k.padding_is (p ∙ sym (by_masks (λ a m. eqb a 0) rows i)) ∙ sym (many_more is_padding rows i);
-      special_is = ap₂ ◌+◌ k.special_is (q ∙ sym (by_masks (λ a m. not (eqb a 0) && not (eqb m 0)) rows i)) ∙ sym (many_more is_special rows i);
-      rest_is = ap₂ ◌+◌ k.rest_is (r ∙ sym (by_masks (λ a m. not (eqb a 0) && eqb m 0) rows i)) ∙ sym (many_more is_rest rows i);
+      padding_is = ap₂ ◌+◌ k.padding_is (told _ ∙ sym (by_masks (λ a m. eqb a 0) rows i)) ∙ sym (many_more is_padding rows i);
+      special_is = ap₂ ◌+◌ k.special_is (told _ ∙ sym (by_masks (λ a m. not (eqb a 0) && not (eqb m 0)) rows i)) ∙ sym (many_more is_special rows i);
+      rest_is = ap₂ ◌+◌ k.rest_is (told _ ∙ sym (by_masks (λ a m. not (eqb a 0) && eqb m 0) rows i)) ∙ sym (many_more is_rest rows i);
     }
 
 -- ---- No more than there are rows
@@ -90,7 +96,6 @@ module _ {rows : List ℕ} {padding special rest i : ℕ} (k : Counting rows pad
   counting_end count e = λ j. record { padding = (k.padding_is ∙ ap (λ (n : ℕ). how_many is_padding (first_rows rows n)) e) j; special = (k.special_is ∙ ap (λ (n : ℕ). how_many is_special (first_rows rows n)) e) j; rest = (k.rest_is ∙ ap (λ (n : ℕ). how_many is_rest (first_rows rows n)) e) j }
 
 -- one of a kind at most
-pub one_few : (b : Bool) {x : ℕ} → x ≡ one b → x ≤ 1
-unfolding one
-one_few true e = omega arith
-one_few false e = omega arith
+pub one_few : (b : Bool) → from_bool b ≤ 1
+one_few true = omega arith
+one_few false = omega arith

@@ -4,20 +4,19 @@ use native.Mathlib.Omega.{arith}
 use Rattle.report_rows.proofs.count_kinds.Goals as goal
 
 pub loop-i-init : goal.loop-i-init
-loop-i-init c = (omega arith, counting_start _)
+loop-i-init c = counting_start _
 
 pub overflow_add-padding : goal.overflow_add-padding
-overflow_add-padding c = omega (arith, padding_few c.loop-i.invariant.1, one_few _ c.is_padding-padding.ensures)
+overflow_add-padding c = omega (arith, padding_few c.loop-i.invariant, one_few)
 
 pub overflow_add-special : goal.overflow_add-special
-overflow_add-special c = omega (arith, special_few c.loop-i.invariant.1, one_few _ c.is_special-special.ensures)
+overflow_add-special c = omega (arith, special_few c.loop-i.invariant, one_few)
 
 pub overflow_add-rest : goal.overflow_add-rest
-overflow_add-rest c = omega (arith, rest_few c.loop-i.invariant.1, one_few _ c.is_rest-rest.ensures)
+overflow_add-rest c = omega (arith, rest_few c.loop-i.invariant, one_few)
 
 pub loop-i-preserved : goal.loop-i-preserved
-loop-i-preserved c =
-    (omega arith, counting_more c.loop-i.invariant.1 c.is_padding-padding.ensures c.is_special-special.ensures c.is_rest-rest.ensures)
+loop-i-preserved c = counting_more c.loop-i.invariant
 
 pub returns : goal.returns
-returns c = counting_end c.loop-i.invariant.1 c.args.count (omega arith)
+returns c = counting_end c.loop-i.invariant c.args.count (omega arith)

@@ -1,10 +1,6 @@
 -- `count_kinds` counts row by row: after i turns, the kinds of the first i (`Counting`). Assumes nothing.
-use Prim.Native.Nat.{◌-◌, ◌≤◌}
 use Rattle.report_rows.proofs.Counting.{Counting}
 use Rattle.report_rows.proofs.count_kinds.Given as goal
 
 abbrev pub invariant-loop-i : goal.invariant-loop-i
-invariant-loop-i l = (l.i ≤ l.count) × Counting l.rows l.padding l.special l.rest l.i
-
-abbrev pub decreases-loop-i : goal.decreases-loop-i
-decreases-loop-i l = l.count - l.i
+invariant-loop-i l = Counting l.rows l.padding l.special l.rest l.i
