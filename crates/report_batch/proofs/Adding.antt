@@ -1,5 +1,5 @@
 -- What is counted of two lists that store a batch is what the batch adds to a report. Assumes nothing.
-use mathlib.Core.Path.{◌≡◌, sym, ap, ◌∙◌}
+use mathlib.Core.Path.{◌≡◌, sym, ap, subst, ◌∙◌}
 use Prim.Native.Nat.{ℕ, ◌+◌, ◌-◌, ◌/◌, ◌≤◌}
 use native.Mathlib.Nat.{mul-div_cancel}
 use native.Mathlib.Omega.{arith}
@@ -13,26 +13,33 @@ use Rattle.record.specs.Walk.{all_rows}
 use Rattle.record.proofs.Flat.{length_nodes, length_rows}
 use Rattle.record.proofs.Read.{found}
 use Rattle.record.proofs.Walk.{rows_stored}
-use Rattle.record.specs.declared.Refusal.TheVariants.{MalformedRecord}
+use Rattle.std.specs.Prelude.{Ok, Err, Option, Some, None, MatchOption, ok_or}
+use Rattle.record.specs.declared.Refusal.{Refusal}
+use Rattle.record.specs.declared.Refusal.TheVariants.{MalformedRecord, TotalTooLarge}
 use Rattle.record_check.specs.Answers.{shape_of}
-use Rattle.record_check.specs.declared.Shape.TheVariants.{Malformed}
-use Rattle.record_check.proofs.Checked.{none_of, any_of}
+use Rattle.record_check.proofs.Checked.{refused_as, none_of, any_of}
 use Rattle.report_trees.specs.Counts.{windows_in}
-use Rattle.report_trees.specs.Report.{counted, summed, totalled, add_answer}
+use Rattle.report_trees.specs.Report.{counted, summed, Within, totalled, add_answer}
 use Rattle.report_trees.specs.declared.Report.{Report}
-use Rattle.report_trees.specs.declared.Added.TheVariants.{Refused}
 use Rattle.report_trees.proofs.Counts.{nodes_tops}
+use Rattle.report_trees.proofs.Totals.{totals_fit, totals_too_large}
 use Rattle.report_rows.specs.Kinds.{kinds_of}
 use Rattle.report_rows.specs.declared.Kinds.{Kinds}
 
-pub added_malformed : (nodes rows : List ℕ) (r : Report) → shape_of (read nodes rows) ≡ Malformed → Refused MalformedRecord ≡ add_answer (read nodes rows) r
+pub added_malformed : (nodes rows : List ℕ) (r : Report) {why : Refusal} → Err why ≡ shape_of (read nodes rows) → Err why ≡ add_answer (read nodes rows) r
 unfolding add_answer
-added_malformed nodes rows r e = sym (none_of (Refused MalformedRecord) (λ f. totalled (summed r (counted f))) (read nodes rows) e)
+added_malformed nodes rows r e =
+    ap Err (refused_as (read nodes rows) (sym e)) ∙ sym (none_of (Err MalformedRecord) (λ f. totalled (summed r (counted f))) (read nodes rows) (sym e))
+
+-- the sum, if it is within the limit
+pub totalled_of : (t : Report) (sum : Option Report) → MatchOption sum (Within t → ⊥) (λ s. (s ≡ t) × Within s) → ok_or sum TotalTooLarge ≡ totalled t
+totalled_of t None n = totals_too_large t n
+totalled_of t (Some s) (e, w) = ap Ok e ∙ totals_fit t (subst Within e w)
 
 module _ {nodes rows : List ℕ} {f : Forest} (s : Stores nodes rows f) where
   pub added_batch : (r : Report) → add_answer (read nodes rows) r ≡ totalled (summed r (counted f))
   unfolding add_answer
-  added_batch r = any_of (Refused MalformedRecord) (λ f. totalled (summed r (counted f))) s
+  added_batch r = any_of (Err MalformedRecord) (λ f. totalled (summed r (counted f))) s
 
   -- ---- The counts
 

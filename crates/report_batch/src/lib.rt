@@ -1,21 +1,18 @@
 // A batch added to a report (document 02, request 03).
 #![tactic(auto)]
 
-ghost use Rattle.std.specs.Prelude.{◌≡◌, ◌+◌, leb};
+ghost use Rattle.std.specs.Prelude.{◌≡◌, MatchOption};
 ghost use Rattle.record.specs.Read.{read};
-ghost use Rattle.report_trees.specs.Report.{summed, largest_total, totalled, add_answer};
+ghost use Rattle.report_trees.specs.Report.{summed, Within, add_answer};
 
 use record::{Encoding, Refusal};
-use record_check::Shape;
-use report_trees::{Added, Report};
+use report_trees::Report;
 
 // A batch added to a report: refused with 1, then 22.
-pub fn report_add(nodes: &[u32], rows: &[u32], report: Report) -> Added
+pub fn report_add(nodes: &[u32], rows: &[u32], report: Report) -> Result<Report, Refusal>
     ensures { result ≡ add_answer (read nodes.now rows.now) report }
 {
-    let Shape::Encodings(encodings) = record_check::check_batch(nodes, rows) else {
-        return Added::Refused(Refusal::MalformedRecord);
-    };
+    let encodings = record_check::check_batch(nodes, rows)?;
     let all = nodes.len() / Encoding::NODE_WIDTH;
     let count = rows.len() / Encoding::ROW_WIDTH;
     let kinds = report_rows::count_kinds(rows, count);
@@ -27,44 +24,22 @@ pub fn report_add(nodes: &[u32], rows: &[u32], report: Report) -> Added
         special: kinds.special as u64,
         rest: kinds.rest as u64,
     };
-    total(report, batch)
+    total(report, batch).ok_or(Refusal::TotalTooLarge)
 }
 
 // Each total of both, unless one is too large.
-fn total(report: Report, batch: Report) -> Added
-    ensures { result ≡ totalled (summed report batch) }
+fn total(report: Report, batch: Report) -> Option<Report>
+    ensures { MatchOption
+        result
+        (Within (summed report batch) → ⊥)
+        (λ t. (t ≡ summed report batch) × Within t) }
 {
-    if !fits(report.encodings, batch.encodings) {
-        return Added::Refused(Refusal::TotalTooLarge);
-    }
-    if !fits(report.windows, batch.windows) {
-        return Added::Refused(Refusal::TotalTooLarge);
-    }
-    if !fits(report.rows, batch.rows) {
-        return Added::Refused(Refusal::TotalTooLarge);
-    }
-    if !fits(report.padding, batch.padding) {
-        return Added::Refused(Refusal::TotalTooLarge);
-    }
-    if !fits(report.special, batch.special) {
-        return Added::Refused(Refusal::TotalTooLarge);
-    }
-    if !fits(report.rest, batch.rest) {
-        return Added::Refused(Refusal::TotalTooLarge);
-    }
-    Added::Done(Report {
-        encodings: report.encodings + batch.encodings,
-        windows: report.windows + batch.windows,
-        rows: report.rows + batch.rows,
-        padding: report.padding + batch.padding,
-        special: report.special + batch.special,
-        rest: report.rest + batch.rest,
+    Some(Report {
+        encodings: report.encodings.checked_add(batch.encodings)?,
+        windows: report.windows.checked_add(batch.windows)?,
+        rows: report.rows.checked_add(batch.rows)?,
+        padding: report.padding.checked_add(batch.padding)?,
+        special: report.special.checked_add(batch.special)?,
+        rest: report.rest.checked_add(batch.rest)?,
     })
-}
-
-// Whether a sum is a total.
-fn fits(before: u64, more: u64) -> bool
-    ensures { result ≡ leb (before + more) largest_total }
-{
-    more <= u64::MAX - before
 }

@@ -2,19 +2,14 @@
 -- Assumes nothing.
 use mathlib.Core.Path.{◌≡◌, refl}
 use mathlib.Core.Bool.{Bool, true, false, cond}
-use Prim.Native.Nat.{ℕ, ◌+◌, ◌-◌, ◌≤◌}
+use Prim.Native.Nat.{ℕ, ◌≤◌}
 use native.Mathlib.Omega.{arith}
 use lib.Dec.{leb}
-use Rattle.record.proofs.WellFormed.{Tells, tells_le, tells_and, tells_as, tells_same}
+use Rattle.record.proofs.WellFormed.{Tells, tells_le, tells_and}
 use Rattle.record.specs.declared.Refusal.TheVariants.{TotalTooLarge}
-use Rattle.report_trees.specs.Report.{summed, largest_total, within_totals, totalled}
+use Rattle.report_trees.specs.Report.{summed, largest_total, within_totals, Within, totalled}
 use Rattle.report_trees.specs.declared.Report.{Report}
 use Rattle.std.specs.Prelude.{Ok, Err}
-
-abbrev pub Within : Report → Type 0
-Within r =
-    (r.encodings ≤ largest_total)
-    × ((r.windows ≤ largest_total) × ((r.rows ≤ largest_total) × ((r.padding ≤ largest_total) × ((r.special ≤ largest_total) × (r.rest ≤ largest_total)))))
 
 pub tells_within : (r : Report) → Tells (within_totals r) (Within r)
 tells_within r =
@@ -35,7 +30,3 @@ totals_too_large r n = go (within_totals r) refl
     go : (b : Bool) → within_totals r ≡ b → Err TotalTooLarge ≡ cond b (Ok r) (Err TotalTooLarge)
     go true e = absurd (n ((tells_within r).so e))
     go false e = refl
-
--- what is left below the largest total holds what is added
-pub room_fits : (before more : ℕ) → before ≤ largest_total → leb more (largest_total - before) ≡ leb (before + more) largest_total
-room_fits before more h = tells_same {P = before + more ≤ largest_total} (tells_as (λ (k : more ≤ largest_total - before). omega arith) (λ k. omega arith) (tells_le more (largest_total - before))) (tells_le (before + more) largest_total)

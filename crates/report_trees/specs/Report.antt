@@ -1,6 +1,6 @@
 -- A report, a batch added to it, and what is to hold of reports (document 02, request 03).
 -- Assumes nothing: these are definitions.
-use Rattle.std.specs.Prelude.{◌≡◌, Bool, ◌&&◌, cond, List, ℕ, ◌+◌, leb, Result, Ok, Err}
+use Rattle.std.specs.Prelude.{◌≡◌, Bool, ◌&&◌, cond, List, ℕ, ◌+◌, ◌≤◌, leb, Result, Ok, Err}
 use Rattle.fractions.specs.Fractions.{lowest_of}
 use Rattle.fractions.specs.declared.Fraction.{Fraction}
 use Rattle.record.specs.Tree.{Forest, tops}
@@ -40,6 +40,12 @@ within_totals r =
     leb r.encodings largest_total
     && (leb r.windows largest_total
     && (leb r.rows largest_total && (leb r.padding largest_total && (leb r.special largest_total && leb r.rest largest_total))))
+
+-- the same as a fact
+abbrev pub Within : Report → Type 0
+Within r =
+    (r.encodings ≤ largest_total)
+    × ((r.windows ≤ largest_total) × ((r.rows ≤ largest_total) × ((r.padding ≤ largest_total) × ((r.special ≤ largest_total) × (r.rest ≤ largest_total)))))
 
 -- "22 if a total would pass 18,446,744,073,709,551,615"
 unfoldable pub totalled : Report → Result Report Refusal
