@@ -9,7 +9,7 @@ ghost use Rattle.c_report.specs.Reports.{report_in, added_crossed, share_crossed
 ghost use Rattle.record.specs.Read.{read};
 ghost use Rattle.report_trees.specs.Report.{add_answer, share_of};
 
-use report_trees::{Added, Report};
+use report_trees::Report;
 
 // A batch added to a report, which is six totals: encodings at the top, windows at every level, rows of both; of these rows those
 // with attention 0, those with attention not 0 and special mask not 0, and the rest. An empty report is six zeros.
@@ -21,10 +21,10 @@ pub extern "C" fn noddrefyr_report_add(nodes: &[u32], rows: &[u32], report: &mut
         (add_answer (read nodes.now rows.now) (report_in report.old)))
         result report.new }
 {
-    let added = report_batch::report_add(nodes, rows, report_of(report));
-    match added {
-        Added::Refused(why) => why.number(),
-        Added::Done(after) => {
+    // A match: `c_crossing::cross` is for numbers of 32 bits, and these have 64.
+    match report_batch::report_add(nodes, rows, report_of(report)) {
+        Err(why) => why.number(),
+        Ok(after) => {
             *report = [
                 after.encodings,
                 after.windows,

@@ -2,12 +2,10 @@
 -- Assumes nothing.
 use mathlib.Core.Path.{◌≡◌, refl}
 use mathlib.Core.Bool.{Bool, true, false, cond}
-use Prim.Native.Nat.{ℕ, ◌≤◌}
 use native.Mathlib.Omega.{arith}
-use lib.Dec.{leb}
 use Rattle.record.proofs.WellFormed.{Tells, tells_le, tells_and}
 use Rattle.record.specs.declared.Refusal.TheVariants.{TotalTooLarge}
-use Rattle.report_trees.specs.Report.{summed, largest_total, within_totals, Within, totalled}
+use Rattle.report_trees.specs.Report.{summed, within_totals, Within, totalled}
 use Rattle.report_trees.specs.declared.Report.{Report}
 use Rattle.std.specs.Prelude.{Ok, Err}
 
