@@ -30,22 +30,11 @@ pub fn node_fits(nodes: &[u32], i: usize, room: usize) -> bool
 fn range_ok(n: u32, mark: u32, start: u32, end: u32) -> bool
     ensures { Decides result (RangeOk n mark start end) }
 {
-    if mark == 0 {
-        if start == 0 {
-            if end == 0 {
-                return true;
-            }
-        }
-        return false;
+    match mark {
+        0 => start == 0 && end == 0,
+        1 => start <= end && end <= n,
+        _ => false,
     }
-    if mark == 1 {
-        if start <= end {
-            if end <= n {
-                return true;
-            }
-        }
-    }
-    false
 }
 
 // The ranges of the node at i.
@@ -53,12 +42,9 @@ fn node_ok(nodes: &[u32], i: usize) -> bool
     requires { i + node_width ≤ length nodes.now }
     ensures { Decides result (RangesOk nodes.now i) }
 {
-    let mut k: usize = 0;
-    while k < Encoding::SEQUENCES {
+    for k in 0..Encoding::SEQUENCES {
         let at = i + Encoding::RANGES + k * Encoding::RANGE_WIDTH;
-        if range_ok(nodes[i], nodes[at], nodes[at + 1], nodes[at + 2]) {
-            k += 1;
-        } else {
+        if !range_ok(nodes[i], nodes[at], nodes[at + 1], nodes[at + 2]) {
             return false;
         }
     }
@@ -77,7 +63,7 @@ fn marked_word(rows: &[u32], at: usize) -> usize
 fn lowest_bit(x: usize) -> usize
     ensures { LowestBit x result }
 {
-    x & std::num::wrapping_sub_usize(0, x)
+    x & x.wrapping_neg()
 }
 
 // The pool and the word of every row. No branch depends on a row: pools and marks, of which each is 0 or 1, are put
@@ -86,19 +72,13 @@ pub fn rows_ok(rows: &[u32]) -> bool
     ensures { Decides result (RowsFine rows.now) }
 {
     let count = rows.len() / Encoding::ROW_WIDTH;
-    let mut i: usize = 0;
-    let mut at: usize = 0;
     let mut marks: usize = 0;
     let mut lowest: usize = 0;
-    while i < count {
+    for i in 0..count {
+        let at = i * Encoding::ROW_WIDTH;
         let word = marked_word(rows, at + Column::WORD_MARK);
-        marks = marks | rows[at + Column::POOL] as usize | word;
-        lowest = lowest | lowest_bit(word);
-        i += 1;
-        at += Encoding::ROW_WIDTH;
+        marks |= rows[at + Column::POOL] as usize | word;
+        lowest |= lowest_bit(word);
     }
-    if lowest <= 1 {
-        return marks % NUMBERS <= 1;
-    }
-    false
+    lowest <= 1 && marks % NUMBERS <= 1
 }

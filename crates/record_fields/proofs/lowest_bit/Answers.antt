@@ -4,4 +4,4 @@ use Rattle.record_fields.proofs.Lowest.{lowest_bit}
 use Rattle.record_fields.proofs.lowest_bit.Goals as goal
 
 pub returns : goal.returns
-returns c = lowest_bit c.args.x c.wrapping_sub_usize.result (omega arith) (omega arith) c.wrapping_sub_usize.ensures.value
+returns c = lowest_bit c.args.x c.wrapping_neg.result (omega arith) (omega arith) c.wrapping_neg.ensures
