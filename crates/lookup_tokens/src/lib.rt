@@ -14,95 +14,85 @@ use record::{Column, Encoding, Place, Refusal, Row, SequencePlace, Word};
 
 // The characters of a row, its sequence and its place in that.
 #[derive(Clone, Copy)]
-pub enum TokenCharsAnswer {
-    Refused(Refusal),
-    Nothing,
-    Found {
-        sequence: u32,
-        place: SequencePlace,
-        start: Place,
-        end: Place,
-    },
+pub struct TokenChars {
+    pub sequence: u32,
+    pub place: SequencePlace,
+    pub start: Place,
+    pub end: Place,
 }
 
 // The word of a row, its sequence and its place in that.
 #[derive(Clone, Copy)]
-pub enum TokenWordAnswer {
-    Refused(Refusal),
-    Nothing,
-    Found {
-        sequence: u32,
-        place: SequencePlace,
-        word: Word,
-    },
+pub struct TokenWord {
+    pub sequence: u32,
+    pub place: SequencePlace,
+    pub word: Word,
 }
 
 // The sequence of a row, the row's place in it, and the row's characters. Refusal: 1.
-pub fn token_to_chars(nodes: &[u32], rows: &[u32], token: Row) -> TokenCharsAnswer
+pub fn token_to_chars(
+    nodes: &[u32],
+    rows: &[u32],
+    token: Row,
+) -> Result<Option<TokenChars>, Refusal>
     ensures { result ≡ token_to_chars_answer (read nodes.now rows.now) token.0 }
 {
-    if record_check::is_one(nodes, rows) {
-        return chars_of_token(nodes, rows, token);
+    if !record_check::is_one(nodes, rows) {
+        return Err(Refusal::MalformedRecord);
     }
-    TokenCharsAnswer::Refused(Refusal::MalformedRecord)
+    Ok(chars_of_token(nodes, rows, token))
 }
 
 // The sequence of a row, the row's place in it, and the row's word. Refusal: 1.
-pub fn token_to_word(nodes: &[u32], rows: &[u32], token: Row) -> TokenWordAnswer
+pub fn token_to_word(nodes: &[u32], rows: &[u32], token: Row) -> Result<Option<TokenWord>, Refusal>
     ensures { result ≡ token_to_word_answer (read nodes.now rows.now) token.0 }
 {
-    if record_check::is_one(nodes, rows) {
-        return word_of_token(nodes, rows, token);
+    if !record_check::is_one(nodes, rows) {
+        return Err(Refusal::MalformedRecord);
     }
-    TokenWordAnswer::Refused(Refusal::MalformedRecord)
+    Ok(word_of_token(nodes, rows, token))
 }
 
 // ---- The same, where the record is known to be one encoding
 
-fn chars_of_token(nodes: &[u32], rows: &[u32], token: Row) -> TokenCharsAnswer
+fn chars_of_token(nodes: &[u32], rows: &[u32], token: Row) -> Option<TokenChars>
     requires { is_one (read nodes.now rows.now) ≡ true }
     ensures { OfOne nodes.now rows.now (λ E. result ≡ token_chars_answer (token_to_chars E token.0)) }
 {
     let row = token.0;
     if row >= nodes[0] {
-        return TokenCharsAnswer::Nothing;
+        return None;
     }
-    let found = lookup_holding::sequence_of(nodes, row);
-    let Sequence::Found { sequence, place } = found else {
-        return TokenCharsAnswer::Nothing;
-    };
+    let Sequence { sequence, place } = lookup_holding::sequence_of(nodes, row)?;
     let at = (row as usize) * Encoding::ROW_WIDTH;
     let start = rows[at + Column::OFFSET_START];
     let end = rows[at + Column::OFFSET_END];
-    TokenCharsAnswer::Found {
+    Some(TokenChars {
         sequence,
         place,
         start: Place(start),
         end: Place(end),
-    }
+    })
 }
 
 // The word of a row, for the lookup from character to word too.
-pub fn word_of_token(nodes: &[u32], rows: &[u32], token: Row) -> TokenWordAnswer
+pub fn word_of_token(nodes: &[u32], rows: &[u32], token: Row) -> Option<TokenWord>
     requires { is_one (read nodes.now rows.now) ≡ true }
     ensures { OfOne nodes.now rows.now (λ E. result ≡ token_word_answer (token_to_word E token.0)) }
 {
     let row = token.0;
     if row >= nodes[0] {
-        return TokenWordAnswer::Nothing;
+        return None;
     }
     let at = (row as usize) * Encoding::ROW_WIDTH;
     if rows[at + Column::WORD_MARK] != 1 {
-        return TokenWordAnswer::Nothing;
+        return None;
     }
-    let found = lookup_holding::sequence_of(nodes, row);
-    let Sequence::Found { sequence, place } = found else {
-        return TokenWordAnswer::Nothing;
-    };
+    let Sequence { sequence, place } = lookup_holding::sequence_of(nodes, row)?;
     let word = rows[at + Column::WORD];
-    TokenWordAnswer::Found {
+    Some(TokenWord {
         sequence,
         place,
         word: Word(word),
-    }
+    })
 }

@@ -6,6 +6,7 @@ use Rattle.record.specs.Tree.{Encoding}
 use Rattle.lookup_holding.specs.Promises.{sequence_found}
 use Rattle.lookup_holding.specs.Holding.{token_to_sequence}
 use Rattle.lookup_holding.specs.declared.Sequence.{Sequence}
+use Rattle.std.specs.Prelude.{Option as Answer}
 use Rattle.lookup_ranges.proofs.Top.{top_there}
 use Rattle.lookup_tokens.specs.Tokens.{token_to_word}
 use Rattle.lookup_tokens.specs.Answers.{token_word_answer}
@@ -14,7 +15,7 @@ use Rattle.lookup_tokens.proofs.TokensStored.{row_inside_lem, of_past, of_unplac
 use Rattle.lookup_tokens.proofs.word_of_token.Goals as goal
 
 -- the sequence and the place of a row, by the case of the answer
-placed : (row : ℕ) (E : Encoding) {t a : Sequence} → t ≡ sequence_found (token_to_sequence E row) → t ≡ a → token_to_sequence E row ≡ sequence_back a
+placed : (row : ℕ) (E : Encoding) {t a : Answer Sequence} → t ≡ sequence_found (token_to_sequence E row) → t ≡ a → token_to_sequence E row ≡ sequence_back a
 placed row E h e = sequence_back_lem _ _ h ∙ ap sequence_back e
 
 pub bounds-nodes-0 : goal.bounds-nodes-0
@@ -30,17 +31,17 @@ bounds-rows-at c = omega (arith, row_inside_lem _ _ _ c.requires c.if-row-nodes.
 pub returns-then-rows-at-ne1 : goal.returns-then-rows-at-ne1
 returns-then-rows-at-ne1 c = λ E one. ap token_word_answer (sym (word_unmarked one _ c.if-row-nodes.false c.if-rows-at-ne1.true))
 
-pub sequence_of-found-requires : goal.sequence_of-found-requires
-sequence_of-found-requires c = top_there _ _ c.requires
+pub sequence_of-requires : goal.sequence_of-requires
+sequence_of-requires c = top_there _ _ c.requires
 
-pub returns-in_default : goal.returns-in_default
+pub returns-in_err-sequence : goal.returns-in_err-sequence
 unfolding token_to_word
-returns-in_default c = λ E one.
-    ap token_word_answer (sym (of_unplaced one _ _ (placed _ E (c.sequence_of-found.ensures _ E one) c.in_default.is)))
+returns-in_err-sequence c = λ E one.
+    c.from_residual.ensures ∙ ap token_word_answer (sym (of_unplaced one _ _ (placed _ E (c.sequence_of.ensures _ E one) c.in_err-sequence.was)))
 
 pub bounds-rows-at-2 : goal.bounds-rows-at-2
 bounds-rows-at-2 c = omega (arith, row_inside_lem _ _ _ c.requires c.if-row-nodes.false)
 
 pub returns : goal.returns
 returns c = λ E one.
-    ap token_word_answer (sym (word_stored one _ c.if-row-nodes.false _ c.if-rows-at-ne1.false (placed _ E (c.sequence_of-found.ensures _ E one) c.in-Found.is)))
+    ap token_word_answer (sym (word_stored one _ c.if-row-nodes.false _ c.if-rows-at-ne1.false (placed _ E (c.sequence_of.ensures _ E one) c.in_ok-sequence.was)))
