@@ -11,12 +11,7 @@ use record_extent::Extent;
 pub fn stride_refused(n: u32, max: u32, stride: u32) -> bool
     ensures { result ≡ stride_refused n max stride }
 {
-    if 0 < max {
-        if max < n {
-            return max <= stride;
-        }
-    }
-    false
+    0 < max && max < n && max <= stride
 }
 
 // How much an encoding of n rows holds once it is cut.
@@ -24,15 +19,13 @@ pub fn size_after(n: u32, max: u32, stride: u32, own: Extent) -> Extent
     requires { Fitting n own }
     ensures { result ≡ size_after n max stride own }
 {
-    let decision = cut_plan::decide(n, max, stride);
-    match decision {
-        Decision::Whole => own,
+    match cut_plan::decide(n, max, stride) {
+        Decision::Whole | Decision::StrideRefused => own,
         Decision::Emptied => Extent {
             nodes: own.nodes + 1,
             rows: own.rows,
             levels: own.levels + 1,
         },
-        Decision::StrideRefused => own,
         Decision::Windows(count) => Extent {
             nodes: count as usize,
             rows: n as usize + (count - 1) as usize * stride as usize,
