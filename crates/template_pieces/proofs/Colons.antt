@@ -22,9 +22,9 @@ use Rattle.template_numbers.specs.Number.{read_number, number_answer}
 use Rattle.template_numbers.proofs.Number.{above_none}
 use Rattle.template_pieces.specs.Piece.{Piece, sequence_a, sequence_b, special, colon, named, typed, by_name, unreadable, piece_typed, of_colons, read_part, piece_answer}
 use Rattle.template_pieces.specs.Promises.{without_number}
-use Rattle.template_numbers.specs.declared.NumberAnswer.TheVariants.{Unreadable as Bad, Number}
-use Rattle.template_pieces.specs.declared.PieceAnswer.TheVariants.{Unreadable, Read}
-use Rattle.template_pieces.proofs.Piece.{take_rest}
+use Rattle.std.specs.Prelude.{Some, None, Ok, Err}
+use Rattle.template_pieces.specs.declared.Piece.{Piece as PieceRead}
+use Rattle.template_pieces.proofs.ByName.{take_rest}
 
 module _ (start : ℕ) (part : List ℕ) {end : ℕ} (first : FoundFrom part 0 colon end) where
   pub no_colon : end ≡ length part → read_part start part ≡ by_name (named start part)
@@ -96,26 +96,24 @@ module _ (rest : List ℕ) {end : ℕ} (next : FoundFrom rest 0 colon end) where
 
 -- ---- Answers
 
-pub number_none : (number : Option ℕ) → number_answer number ≡ Bad → number ≡ nothing
+pub number_none : (number : Option ℕ) → number_answer number ≡ None → number ≡ nothing
 unfolding number_answer
 number_none nothing e = refl
 number_none (some n) e = cc
 
-pub number_some : (number : Option ℕ) {type : ℕ} → number_answer number ≡ Number type → number ≡ some type
+pub number_some : (number : Option ℕ) {type : ℕ} → number_answer number ≡ Some type → number ≡ some type
 unfolding number_answer
 number_some nothing e = cc
 number_some (some n) e = cc
 
 module _ (type : ℕ) where
   -- a type changes nothing of what cannot be read
-  pub typed_bad : (piece : Option Piece) {why : Why} → piece_answer (by_name piece) ≡ Unreadable why → Unreadable why ≡ piece_answer (by_name (map (typed type) piece))
+  pub typed_bad : (piece : Option Piece) {why : Why} → piece_answer (by_name piece) ≡ Err why → Err why ≡ piece_answer (by_name (map (typed type) piece))
   unfolding piece_answer
   typed_bad nothing e = sym e
-  typed_bad (some (sequence_a t)) e = cc
-  typed_bad (some (sequence_b t)) e = cc
-  typed_bad (some (special s id t)) e = cc
+  typed_bad (some p) e = cc
 
-  pub typed_some : (piece : Option Piece) {kind old start size : ℕ} → piece_answer (by_name piece) ≡ Read kind old start size → Read kind type start size ≡ piece_answer (by_name (map (typed type) piece))
+  pub typed_some : (piece : Option Piece) {p : PieceRead} → piece_answer (by_name piece) ≡ Ok p → Ok (record { name = p.name; type_id = type }) ≡ piece_answer (by_name (map (typed type) piece))
   unfolding piece_answer
   typed_some nothing e = cc
   typed_some (some (sequence_a u)) e = cc

@@ -1,4 +1,4 @@
-pub mod Piece
+pub mod ByName
 mod Colons
 pub mod Lies
 mod Names

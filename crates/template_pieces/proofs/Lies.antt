@@ -1,15 +1,17 @@
 -- A piece that was read: the id of a special piece lies in the text where its numbers say.
 -- Assumes nothing.
-use mathlib.Core.Path.{◌≡◌, refl, ap, subst}
+use mathlib.Core.Path.{◌≡◌, refl, ap, ◌∙◌, subst}
 use Prim.Native.Nat.{ℕ, ◌+◌, ◌-◌, ◌≤◌}
 use native.Mathlib.Nat.{add-sub_cancel_left}
 use native.Mathlib.Omega.{arith}
-use mathlib.Core.List.{List, [], ◌∷◌}
-use lib.ListN.{length, get_or, take, drop, length-drop}
+use mathlib.Core.List.{List}
+use lib.ListN.{length, take, drop, length-drop}
 use lib.Seq.{take-take, length-take-le}
 use Rattle.template_parts.specs.Parts.{length_to}
 use Rattle.template_parts.proofs.Finding.{length_to_most}
-use Rattle.template_pieces.specs.Piece.{Piece, sequence_a, sequence_b, special, colon, PartReading, readable, read_part, piece_numbers}
+use Rattle.template_pieces.specs.Piece.{Piece, sequence_a, sequence_b, special, colon, PartReading, readable, read_part, piece_told}
+use Rattle.template_pieces.specs.declared.Name.TheVariants.{A, B, Special}
+use Rattle.template_pieces.specs.declared.Piece.{Piece as PieceRead}
 use Rattle.template_pieces.proofs.Names.{Named, Reads, part_named}
 
 -- the id of a special piece lies in the text at its place
@@ -46,37 +48,37 @@ module _ (text : List ℕ) (start size : ℕ) (h : start + size ≤ length text)
 
 -- ---- What an answer says of a piece
 
--- A piece has these numbers, and its id lies in the text.
-pub record PieceIs (text : List ℕ) (kind type start size : ℕ) (piece : Piece) : Type 0 where
-  pub numbers : piece_numbers piece ≡ kind ∷ type ∷ start ∷ size ∷ []
+-- A piece is what was told, and its id lies in the text.
+pub record PieceIs (text : List ℕ) (told : PieceRead) (piece : Piece) : Type 0 where
+  pub same : piece_told piece ≡ told
   pub lies_there : Lies text piece
 
--- ---- What the numbers say
+-- ---- What the answer says
 
-module _ {text : List ℕ} {kind type start size : ℕ} where
-  -- a piece's id does not pass the text
-  pub piece_within : (piece : Piece) → PieceIs text kind type start size piece → start + size ≤ length text
-  piece_within (sequence_a t) p =
-      let s : 0 ≡ start = ap (λ (l : List ℕ). get_or l 2 0) p.numbers in
-      let n : 0 ≡ size = ap (λ (l : List ℕ). get_or l 3 0) p.numbers in
-      omega arith
-  piece_within (sequence_b t) p =
-      let s : 0 ≡ start = ap (λ (l : List ℕ). get_or l 2 0) p.numbers in
-      let n : 0 ≡ size = ap (λ (l : List ℕ). get_or l 3 0) p.numbers in
-      omega arith
-  piece_within (special a id t) p =
-      let s : a ≡ start = ap (λ (l : List ℕ). get_or l 2 0) p.numbers in
-      let n : length id ≡ size = ap (λ (l : List ℕ). get_or l 3 0) p.numbers in
-      omega (arith, p.lies_there.0)
-
-  -- a special piece, whose id is the part of the text that the numbers give
-  pub kind_special : (p : Piece) → PieceIs text kind type start size p → kind ≡ 2 → p ≡ special start (take (start + size - start) (drop start text)) type
-  kind_special (sequence_a t) is e = let k : 0 ≡ kind = ap (λ (l : List ℕ). get_or l 0 0) is.numbers in absurd (omega arith)
-  kind_special (sequence_b t) is e = let k : 1 ≡ kind = ap (λ (l : List ℕ). get_or l 0 0) is.numbers in absurd (omega arith)
-  kind_special (special s id t) is e =
-      let type_is : t ≡ type = ap (λ (l : List ℕ). get_or l 1 0) is.numbers in
-      let start_is : s ≡ start = ap (λ (l : List ℕ). get_or l 2 0) is.numbers in
-      let size_is : length id ≡ size = ap (λ (l : List ℕ). get_or l 3 0) is.numbers in
+module _ {text : List ℕ} {told : PieceRead} {start size : ℕ} where
+  -- a special piece has its id in the text where the answer says
+  id_told : (piece : Piece) → PieceIs text told piece → told.name ≡ Special start size → piece ≡ special start (take size (drop start text)) told.type_id
+  id_told (sequence_a t) is e = let named : A ≡ Special start size = ap (λ (p : PieceRead). p.name) is.same ∙ e in cc
+  id_told (sequence_b t) is e = let named : B ≡ Special start size = ap (λ (p : PieceRead). p.name) is.same ∙ e in cc
+  id_told (special s id t) is e =
+      let named : Special s (length id) ≡ Special start size = ap (λ (p : PieceRead). p.name) is.same ∙ e in
+      let type_is : t ≡ told.type_id = ap (λ (p : PieceRead). p.type_id) is.same in
+      let start_is : s ≡ start = cc in
+      let size_is : length id ≡ size = cc in
       let id_is : take (length id) (drop s text) ≡ id = is.lies_there.1 in
       let bytes : take size (drop start text) ≡ id = rw (size_is, start_is) at id_is in
-      rw (add-sub_cancel_left, bytes, type_is, start_is)
+      rw (bytes, type_is, start_is)
+
+  -- an id does not pass the text
+  pub piece_within : (piece : Piece) → PieceIs text told piece → told.name ≡ Special start size → start + size ≤ length text
+  piece_within (sequence_a t) is e = let named : A ≡ Special start size = ap (λ (p : PieceRead). p.name) is.same ∙ e in cc
+  piece_within (sequence_b t) is e = let named : B ≡ Special start size = ap (λ (p : PieceRead). p.name) is.same ∙ e in cc
+  piece_within (special s id t) is e =
+      let named : Special s (length id) ≡ Special start size = ap (λ (p : PieceRead). p.name) is.same ∙ e in
+      let start_is : s ≡ start = cc in
+      let size_is : length id ≡ size = cc in
+      omega (arith, is.lies_there.0)
+
+  -- a special piece, whose id is the part of the text that the answer gives
+  pub kind_special : (piece : Piece) → PieceIs text told piece → told.name ≡ Special start size → piece ≡ special start (take (start + size - start) (drop start text)) told.type_id
+  kind_special piece is e = rw add-sub_cancel_left (id_told piece is e)

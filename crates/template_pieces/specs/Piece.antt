@@ -1,13 +1,13 @@
 -- The piece that a part of a template is, or why it is none (document 01, module 7; document 02, request 02).
 -- Assumes nothing: these are definitions.
-use Rattle.std.specs.Prelude.{Bool, true, false, ◌&&◌, ◌||◌, cond, ℕ, List, [], ◌∷◌, eqb, length}
+use Rattle.std.specs.Prelude.{Bool, true, false, ◌&&◌, ◌||◌, cond, ℕ, List, [], ◌∷◌, eqb, length, Result, Ok, Err}
 use Rattle.std.proofs.Math.Option.{Option, none as nothing, some, map}
 use Rattle.template_parts.specs.Split.{split}
 use Rattle.template_numbers.specs.Number.{read_number}
 use Rattle.record.specs.declared.Why.{Why}
 use Rattle.record.specs.declared.Why.TheVariants.{MoreThanOneColon, BadTypeNumber, UnknownSequenceName}
-use Rattle.template_pieces.specs.declared.PieceAnswer.{PieceAnswer}
-use Rattle.template_pieces.specs.declared.PieceAnswer.TheVariants.{Unreadable, Read}
+use Rattle.template_pieces.specs.declared.Name.TheVariants.{A, B, Special}
+use Rattle.template_pieces.specs.declared.Piece.{Piece as PieceRead}
 
 -- A sequence with its type; or a special id, with its place in the text and its type.
 pub data Piece : Type 0 where
@@ -92,8 +92,12 @@ piece_numbers (sequence_a type) = 0 ∷ type ∷ 0 ∷ 0 ∷ []
 piece_numbers (sequence_b type) = 1 ∷ type ∷ 0 ∷ 0 ∷ []
 piece_numbers (special start id type) = 2 ∷ type ∷ start ∷ length id ∷ []
 
-unfoldable pub piece_answer : PartReading → PieceAnswer
-piece_answer (unreadable why) = Unreadable why
-piece_answer (readable (sequence_a type)) = Read 0 type 0 0
-piece_answer (readable (sequence_b type)) = Read 1 type 0 0
-piece_answer (readable (special start id type)) = Read 2 type start (length id)
+-- the same as it is answered: the id by its place alone
+abbrev pub piece_told : Piece → PieceRead
+piece_told (sequence_a type) = record { name = A; type_id = type }
+piece_told (sequence_b type) = record { name = B; type_id = type }
+piece_told (special start id type) = record { name = Special start (length id); type_id = type }
+
+unfoldable pub piece_answer : PartReading → Result PieceRead Why
+piece_answer (unreadable why) = Err why
+piece_answer (readable piece) = Ok (piece_told piece)

@@ -9,7 +9,6 @@ ghost use Rattle.template_pieces.specs.Piece.{sequence_a, sequence_of, named, by
 ghost use Rattle.template_pieces.specs.Promises.{without_number};
 
 use record::Why;
-use template_numbers::NumberAnswer;
 
 const DOLLAR: u8 = b'$';
 
@@ -23,7 +22,7 @@ const UPPER_B: u8 = b'B';
 
 const LOWER_B: u8 = b'b';
 
-// The kinds of piece.
+// The kinds of piece where they are numbers: in the pieces and steps that are stored, which C reads.
 #[derive(Clone, Copy)]
 pub struct Kind {}
 
@@ -35,21 +34,22 @@ impl Kind {
     pub const SPECIAL: u32 = 2;
 }
 
-// What a part is: unreadable, and why; or its kind (0 A, 1 B, 2 special), its type, and its id's start and length in the text (0
-// for A, B).
+// What a piece stands for: the first or the second sequence, or a special id, by its place in the text.
 #[derive(Clone, Copy)]
-pub enum PieceAnswer {
-    Unreadable(Why),
-    Read {
-        kind: u32,
-        type_id: u32,
-        start: usize,
-        length: usize,
-    },
+pub enum Name {
+    A,
+    B,
+    Special { start: usize, length: usize },
+}
+
+#[derive(Clone, Copy)]
+pub struct Piece {
+    pub name: Name,
+    pub type_id: u32,
 }
 
 // The piece of the part of a text that starts at a place and has so many bytes.
-pub fn read_piece(text: &[u8], start: usize, length: usize) -> PieceAnswer
+pub fn read_piece(text: &[u8], start: usize, length: usize) -> Result<Piece, Why>
     requires { start + length ≤ lib.ListN.length text.now }
     ensures { result ≡ piece_answer (read_part start (take length (drop start text.now))) }
 {
@@ -57,7 +57,7 @@ pub fn read_piece(text: &[u8], start: usize, length: usize) -> PieceAnswer
 }
 
 // The piece of a part: what stands before its colon, with the type after it if there is one.
-fn piece_of(part: &[u8], start: usize) -> PieceAnswer
+fn piece_of(part: &[u8], start: usize) -> Result<Piece, Why>
     ensures { result ≡ piece_answer (read_part start part.now) }
 {
     let end = template_parts::find(part, 0, COLON);
@@ -65,26 +65,12 @@ fn piece_of(part: &[u8], start: usize) -> PieceAnswer
         return named(part, start);
     }
     let rest = &part[end + 1..];
-    let NumberAnswer::Number(type_id) = template_numbers::read_number(rest) else {
-        return PieceAnswer::Unreadable(without_number(rest));
+    let Some(type_id) = template_numbers::read_number(rest) else {
+        return Err(without_number(rest));
     };
     // A second colon is no digit, so where a number was read there is none.
-    let piece = named(&part[..end], start);
-    let PieceAnswer::Read {
-        kind,
-        type_id: _,
-        start,
-        length,
-    } = piece
-    else {
-        return piece;
-    };
-    PieceAnswer::Read {
-        kind,
-        type_id,
-        start,
-        length,
-    }
+    let piece = named(&part[..end], start)?;
+    Ok(Piece { type_id, ..piece })
 }
 
 // Why there is no type in what follows a part's first colon: a second colon goes before a bad number.
@@ -98,7 +84,7 @@ fn without_number(rest: &[u8]) -> Why
 }
 
 // The piece that a name is, without a type after it: a sequence after a dollar sign, else a special id.
-fn named(id: &[u8], start: usize) -> PieceAnswer
+fn named(id: &[u8], start: usize) -> Result<Piece, Why>
     ensures { result ≡ piece_answer (by_name (named start id.now)) }
 {
     if id.len() > 0 {
@@ -106,20 +92,24 @@ fn named(id: &[u8], start: usize) -> PieceAnswer
             return sequence_of(&id[1..]);
         }
     }
-    PieceAnswer::Read {
-        kind: Kind::SPECIAL,
+    Ok(Piece {
+        name: Name::Special {
+            start,
+            length: id.len(),
+        },
         type_id: 0,
-        start,
-        length: id.len(),
-    }
+    })
 }
 
 // The sequence that a text after a dollar sign names: a letter, or nothing or a number for A.
-fn sequence_of(name: &[u8]) -> PieceAnswer
+fn sequence_of(name: &[u8]) -> Result<Piece, Why>
     ensures { result ≡ piece_answer (by_name (sequence_of name.now)) }
 {
     if name.len() == 0 {
-        return sequence(Kind::A, 0);
+        return Ok(Piece {
+            name: Name::A,
+            type_id: 0,
+        });
     }
     if name.len() == 1 {
         return lettered(name);
@@ -128,43 +118,35 @@ fn sequence_of(name: &[u8]) -> PieceAnswer
 }
 
 // The sequence that one byte names.
-fn lettered(name: &[u8]) -> PieceAnswer
+fn lettered(name: &[u8]) -> Result<Piece, Why>
     requires { length name.now ≡ 1 }
     ensures { result ≡ piece_answer (by_name (sequence_of name.now)) }
 {
     let letter = name[0];
-    if letter == UPPER_A {
-        return sequence(Kind::A, 0);
+    if letter == UPPER_A || letter == LOWER_A {
+        return Ok(Piece {
+            name: Name::A,
+            type_id: 0,
+        });
     }
-    if letter == LOWER_A {
-        return sequence(Kind::A, 0);
-    }
-    if letter == UPPER_B {
-        return sequence(Kind::B, 0);
-    }
-    if letter == LOWER_B {
-        return sequence(Kind::B, 0);
+    if letter == UPPER_B || letter == LOWER_B {
+        return Ok(Piece {
+            name: Name::B,
+            type_id: 0,
+        });
     }
     numbered(name)
 }
 
 // A with the type that a number is.
-fn numbered(name: &[u8]) -> PieceAnswer
+fn numbered(name: &[u8]) -> Result<Piece, Why>
     ensures { result ≡ piece_answer (by_name (map sequence_a (read_number name.now))) }
 {
-    let NumberAnswer::Number(type_id) = template_numbers::read_number(name) else {
-        return PieceAnswer::Unreadable(Why::UnknownSequenceName);
+    let Some(type_id) = template_numbers::read_number(name) else {
+        return Err(Why::UnknownSequenceName);
     };
-    sequence(Kind::A, type_id)
-}
-
-fn sequence(kind: u32, type_id: u32) -> PieceAnswer
-    ensures { result ≡ PieceAnswer.Read kind type_id 0 0 }
-{
-    PieceAnswer::Read {
-        kind,
+    Ok(Piece {
+        name: Name::A,
         type_id,
-        start: 0,
-        length: 0,
-    }
+    })
 }

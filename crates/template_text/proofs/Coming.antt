@@ -18,7 +18,7 @@ use Rattle.template_parts.proofs.Parts.{part_found}
 use Rattle.template_pieces.specs.Piece.{Piece, sequence_a, sequence_b, special, PartReading, unreadable, readable, read_part, piece_answer}
 use Rattle.template_pieces.specs.declared.PieceAnswer.TheVariants.{Unreadable as NoPiece, Read as ReadPiece}
 use Rattle.template_pieces.proofs.Lies.{PieceIs, part_lies, piece_within}
-use Rattle.template_pieces.proofs.Piece.{take_rest}
+use Rattle.template_pieces.proofs.ByName.{take_rest}
 use Rattle.template_text.specs.Comes.{fault_in, with_next, of_part, comes_at}
 use Rattle.template_text.specs.Template.{unread, reads, fault_at, read_parts}
 use Rattle.template_text.specs.declared.PieceStep.{PieceStep}

@@ -2,7 +2,7 @@
 use Rattle.template_pieces.specs.Piece.{Piece, by_name, piece_answer}
 use mathlib.Core.Path.{ap, sym, ◌∙◌}
 use mathlib.Core.Option.{Option}
-use Rattle.template_pieces.proofs.Piece.{names_empty, names_special, names_sequence}
+use Rattle.template_pieces.proofs.ByName.{names_empty, names_special, names_sequence}
 use Rattle.template_pieces.proofs.named.Goals as goal
 
 pub returns-then-id-eq-DOLLAR : goal.returns-then-id-eq-DOLLAR

@@ -3,12 +3,14 @@ use mathlib.Core.Path.{ap, sym, ◌∙◌}
 use mathlib.Core.Option.{Option, map}
 use Prim.Native.Nat.{ℕ}
 use Rattle.template_pieces.specs.Piece.{sequence_a, by_name, piece_answer}
-use Rattle.template_pieces.specs.declared.PieceAnswer.{PieceAnswer}
+use Rattle.std.specs.Prelude.{Result}
+use Rattle.record.specs.declared.Why.{Why}
+use Rattle.template_pieces.specs.declared.Piece.{Piece}
 use Rattle.template_pieces.proofs.Colons.{number_none, number_some}
 use Rattle.template_pieces.proofs.numbered.Goals as goal
 
 -- what a number makes of a name
-abbrev named_by : Option ℕ → PieceAnswer
+abbrev named_by : Option ℕ → Result Piece Why
 named_by number = piece_answer (by_name (map sequence_a number))
 
 pub returns-in_default : goal.returns-in_default
@@ -17,4 +19,4 @@ returns-in_default c = ap named_by (sym (number_none _ (sym c.read_number.ensure
 
 pub returns : goal.returns
 unfolding piece_answer
-returns c = c.sequence.ensures ∙ ap named_by (sym (number_some _ (sym c.read_number.ensures ∙ c.in-Number.is)))
+returns c = ap named_by (sym (number_some _ (sym c.read_number.ensures ∙ c.in-Some.is)))

@@ -1,11 +1,11 @@
 -- `piece_of` meets its contract. Assumes nothing.
-use mathlib.Core.Path.{ap, sym, ◌∙◌}
+use borrow.Author.Rules.{rules}
+use mathlib.Core.Path.{◌≡◌, ap, sym, ◌∙◌}
 use Prim.Native.Nat.{◌<◌}
 use native.Mathlib.Omega.{arith}
 use lib.ListN.{length, take}
-use lib.Seq.{length-take-le}
 use Rattle.template_pieces.specs.Piece.{named, piece_answer}
-use Rattle.template_pieces.specs.declared.PieceAnswer.TheVariants.{Unreadable}
+use Rattle.std.specs.Prelude.{Err}
 use Rattle.template_pieces.proofs.Colons.{no_colon, typed_part, untyped_part, number_none, number_some, typed_bad, typed_some}
 use Rattle.template_pieces.proofs.piece_of.Goals as goal
 
@@ -16,22 +16,20 @@ pub returns-in_default : goal.returns-in_default
 unfolding piece_answer
 returns-in_default c =
     let there : c.find-end.result < length c.args.part.now = omega (arith, c.find-end.ensures.inside, c.if-end-part.false) in
-    ap Unreadable c.without_number.ensures
+    ap Err c.without_number.ensures
     ∙ ap piece_answer (sym (untyped_part _ _ c.find-end.ensures there (number_none _ (sym c.read_number.ensures ∙ c.in_default.is))))
 
-pub slice_bounds-named-end : goal.slice_bounds-named-end
-slice_bounds-named-end c = sym (length-take-le _ _ c.find-end.ensures.inside)
-
 -- in the last two, the number after the colon is the type
-pub returns-in_default-piece : goal.returns-in_default-piece
-returns-in_default-piece c =
+pub returns-in_err-piece : goal.returns-in_err-piece
+returns-in_err-piece c =
     let there : c.find-end.result < length c.args.part.now = omega (arith, c.find-end.ensures.inside, c.if-end-part.false) in
-    c.in_default-piece.is
-    ∙ typed_bad c.in-Number.type_id (named c.args.start (take c.find-end.result c.args.part.now)) (sym c.named-piece.ensures ∙ c.in_default-piece.is)
-    ∙ ap piece_answer (sym (typed_part _ _ c.find-end.ensures there (number_some _ (sym c.read_number.ensures ∙ c.in-Number.is))))
+    let same : c.from_residual.result ≡ Err c.in_err-piece.field-0.0 = search rules in
+    same
+    ∙ typed_bad c.in-Some.type_id (named c.args.start (take c.find-end.result c.args.part.now)) (sym c.named-2.ensures ∙ c.in_err-piece.was)
+    ∙ ap piece_answer (sym (typed_part _ _ c.find-end.ensures there (number_some _ (sym c.read_number.ensures ∙ c.in-Some.is))))
 
 pub returns : goal.returns
 returns c =
     let there : c.find-end.result < length c.args.part.now = omega (arith, c.find-end.ensures.inside, c.if-end-part.false) in
-    typed_some c.in-Number.type_id (named c.args.start (take c.find-end.result c.args.part.now)) (sym c.named-piece.ensures ∙ c.in-Read.is)
-    ∙ ap piece_answer (sym (typed_part _ _ c.find-end.ensures there (number_some _ (sym c.read_number.ensures ∙ c.in-Number.is))))
+    typed_some c.in-Some.type_id (named c.args.start (take c.find-end.result c.args.part.now)) (sym c.named-2.ensures ∙ c.in_ok-piece.was)
+    ∙ ap piece_answer (sym (typed_part _ _ c.find-end.ensures there (number_some _ (sym c.read_number.ensures ∙ c.in-Some.is))))
