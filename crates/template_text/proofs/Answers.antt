@@ -7,15 +7,15 @@ use native.Mathlib.Omega.{arith}
 use mathlib.Core.List.{List}
 use lib.ListN.{length}
 use Rattle.record.proofs.WellFormed.{tells_le, tells_and}
-use Rattle.record.specs.declared.Refusal.TheVariants.{PartUnreadable, TemplateTooLong}
-use Rattle.record.specs.declared.Fault.{Fault}
+use Rattle.record.specs.declared.Refusal.TheVariants.{TemplateTooLong}
 use Rattle.template_parts.specs.Parts.{space, parts}
 use Rattle.template_parts.proofs.Split.{split_few}
 use Rattle.template_pieces.specs.Piece.{Piece}
 use Rattle.template_text.specs.Template.{most_bytes, most_parts, read_parts, unread, reads, short, read_template}
 use Rattle.template_text.proofs.Walked.{Walked}
 use Rattle.template_text.specs.Comes.{comes_at}
-use Rattle.template_text.specs.declared.PieceStep.TheVariants.{End, Unreadable}
+use Rattle.std.specs.Prelude.{None, Ok, Err}
+use Rattle.record.specs.declared.Refusal.{Refusal}
 use Rattle.template_text.proofs.Coming.{comes}
 
 pub short_is : (text : List ℕ) → short text ≡ true → (length text ≤ most_bytes) × (length (parts text) ≤ most_parts)
@@ -45,8 +45,8 @@ template_holds text {pieces} e = go (short text) e
 -- ---- At the end of a walk
 
 module _ {text : List ℕ} {at : ℕ} {passed : List Piece} (w : Walked text at passed) (is_short : short text ≡ true) where
-  pub walk_end : comes_at text at ≡ End → read_template text ≡ reads passed
+  pub walk_end : comes_at text at ≡ Ok None → read_template text ≡ reads passed
   walk_end e = template_short text is_short ∙ comes w e
 
-  pub walk_bad : {fault : Fault} → comes_at text at ≡ Unreadable fault → read_template text ≡ unread (PartUnreadable fault)
+  pub walk_bad : {k : Refusal} → comes_at text at ≡ Err k → read_template text ≡ unread k
   walk_bad e = template_short text is_short ∙ comes w e

@@ -12,8 +12,8 @@ use Rattle.lists.specs.Lists.{All}
 use Rattle.template_parts.specs.Parts.{parts, parts_from}
 use Rattle.template_parts.proofs.Parts.{Leads, part_leads}
 use Rattle.template_pieces.specs.Piece.{Piece, sequence_a, sequence_b, special, PartReading, unreadable, readable, read_part, piece_numbers}
-use Rattle.template_pieces.proofs.Lies.{Lies, PieceIs, part_lies}
-use Rattle.template_text.specs.Template.{most_parts, piece_width, TemplateReading, unread, reads, follows, read_parts, read_template, template_of}
+use Rattle.template_pieces.proofs.Lies.{Lies, part_lies}
+use Rattle.template_text.specs.Template.{most_parts, piece_width, TemplateReading, unread, reads, follows, read_parts, read_template, pieces_of}
 use Rattle.template_text.proofs.Answers.{template_holds}
 use Rattle.template_text.proofs.Gathering.{piece_long}
 
@@ -62,16 +62,20 @@ four (sequence_a t) = refl
 four (sequence_b t) = refl
 four (special s id t) = refl
 
+-- A piece has these numbers, and its id lies in the text.
+pub record PieceAt (text : List ℕ) (kind type start size : ℕ) (piece : Piece) : Type 0 where
+  pub numbers : piece_numbers piece ≡ kind ∷ type ∷ start ∷ size ∷ []
+  pub lies_there : Lies text piece
+
 module _ (text : List ℕ) {ps : List Piece} (e : read_template text ≡ reads ps) (i : ℕ) (d : Piece) (h : i < length ps) where
   -- number j of piece i, as the answer has it
   abbrev number : ℕ → ℕ
-  number j = get_or (template_of (read_template text)).pieces (i * piece_width + j) 0
+  number j = get_or (pieces_of (read_template text)) (i * piece_width + j) 0
 
   number_is : (j : ℕ) → j < piece_width → number j ≡ get_or (piece_numbers (get_or ps i d)) j 0
-  unfolding template_of
   number_is j k = rw e (piece_number ps (drop (length (flat_map piece_numbers ps)) (replicate (most_parts * piece_width) 0)) i j d h k)
 
-  pub piece_at : PieceIs text (number 0) (number 1) (number 2) (number 3) (get_or ps i d)
+  pub piece_at : PieceAt text (number 0) (number 1) (number 2) (number 3) (get_or ps i d)
   piece_at =
       record {
         numbers = four (get_or ps i d) ∙ rw (number_is 0 (omega arith), number_is 1 (omega arith), number_is 2 (omega arith), number_is 3 (omega arith));

@@ -11,7 +11,8 @@ use borrow.Author.Tests.{le-leb}
 use Rattle.record.specs.declared.Why.{Why}
 use Rattle.record.specs.declared.Refusal.TheVariants.{PartUnreadable}
 use Rattle.template_parts.specs.Parts.{parts, parts_from, part_step_at}
-use Rattle.template_parts.specs.declared.PartAnswer.TheVariants.{Part, End}
+use Rattle.std.specs.Prelude.{Some, None}
+use Rattle.template_parts.specs.declared.Part.{Part}
 use Rattle.template_parts.proofs.Parts.{Here, part_found, part_none}
 use Rattle.template_pieces.specs.Piece.{Piece, unreadable, readable, read_part}
 use Rattle.template_text.specs.Template.{TemplateReading, unread, reads, fault_at, follows, read_parts}
@@ -52,11 +53,17 @@ module _ {text : List ℕ} {at : ℕ} {passed : List Piece} (w : Walked text at 
       go (reads rest) e = (rest, cc)
 
   -- the end: the pieces passed are all
-  pub walked_end : (part_step_at text at).answer ≡ End → read_parts 0 0 (parts text) ≡ reads passed
+  pub walked_end : (part_step_at text at).answer ≡ None → read_parts 0 0 (parts text) ≡ reads passed
   unfolding read_parts
   walked_end e = w.pieces_are ∙ rw (part_none text at e) (ap reads (append-nil passed))
 
-  module _ {start size : ℕ} (e : (part_step_at text at).answer ≡ Part start size) where
+  module _ {found : Part} (e : (part_step_at text at).answer ≡ Some found) where
+    abbrev start : ℕ
+    start = found.start
+
+    abbrev size : ℕ
+    size = found.length
+
     here : Here text at start size
     here = part_found text at e
 

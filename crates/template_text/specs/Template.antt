@@ -1,6 +1,6 @@
 -- Reading a template text (document 01, module 7, and "Reading a template"; document 02, request 02).
 -- Assumes nothing: these are definitions.
-use Rattle.std.specs.Prelude.{Bool, ◌&&◌, cond, ℕ, ◌+◌, ◌*◌, leb, length, replicate}
+use Rattle.std.specs.Prelude.{Bool, ◌&&◌, cond, ℕ, ◌+◌, ◌*◌, leb, length, replicate, Result, Ok, Err}
 use mathlib.Core.List.{List, [], ◌∷◌, flat_map}
 use Rattle.record.specs.Outcome.{over}
 use Rattle.record.specs.Refusals.{number_of, fault_or}
@@ -10,8 +10,6 @@ use Rattle.record.specs.declared.Refusal.{Refusal}
 use Rattle.record.specs.declared.Refusal.TheVariants.{PartUnreadable, TemplateTooLong}
 use Rattle.template_parts.specs.Parts.{parts}
 use Rattle.template_pieces.specs.Piece.{Piece, PartReading, unreadable, readable, read_part, piece_numbers}
-use Rattle.template_text.specs.declared.TemplateAnswer.{TemplateAnswer}
-use Rattle.template_text.specs.declared.TemplateAnswer.TheVariants.{Refused, Read}
 use Rattle.template_text.specs.declared.Template.{Template}
 
 -- "8 above 4,096 bytes or 64 parts"
@@ -54,9 +52,9 @@ read_template text = cond (short text) (read_parts 0 0 (parts text)) (unread Tem
 
 -- ---- The answer
 
-abbrev pub template_answer : TemplateReading → TemplateAnswer
-template_answer (unread k) = Refused k
-template_answer (reads pieces) = Read (length pieces)
+abbrev pub template_answer : TemplateReading → Result ℕ Refusal
+template_answer (unread k) = Err k
+template_answer (reads pieces) = Ok (length pieces)
 
 -- the numbers of the pieces; a refusal has none
 abbrev pub numbers_of : TemplateReading → List ℕ
@@ -64,8 +62,12 @@ numbers_of (unread k) = []
 numbers_of (reads pieces) = flat_map piece_numbers pieces
 
 -- "64 come back by value, spare ones zero"
-unfoldable pub template_of : TemplateReading → Template
-template_of r = record { answer = template_answer r; pieces = over (numbers_of r) (replicate (most_parts * piece_width) 0) }
+abbrev pub pieces_of : TemplateReading → List ℕ
+pieces_of r = over (numbers_of r) (replicate (most_parts * piece_width) 0)
+
+unfoldable pub template_of : TemplateReading → Result Template Refusal
+template_of (unread k) = Err k
+template_of (reads pieces) = Ok (record { count = length pieces; pieces = pieces_of (reads pieces) })
 
 -- a reading in numbers: 0 and the numbers of the pieces; or the refusal's number, with the number and the place of the part at fault
 -- if it tells one

@@ -2,40 +2,24 @@
 #![tactic(auto)]
 
 ghost use Rattle.std.specs.Prelude.{cond, ◌≡◌, ◌≤◌, length};
-ghost use Rattle.template_text.specs.Template.{read_template, short, unread, template_of};
+ghost use Rattle.template_text.specs.Template.{read_template, short, template_of};
 ghost use Rattle.template_text.specs.Comes.{comes_at, fault_in};
-ghost use Rattle.template_text.specs.Promises.{RoomFor, Gathered};
+ghost use Rattle.template_text.specs.Promises.{RoomFor, Gathered, SmallId, told_numbers};
 
 use record::{Fault, Refusal, Why};
-use template_parts::PartAnswer;
-use template_pieces::PieceAnswer;
+use template_pieces::{Kind, Name, Piece};
 
-// Refused, or read with so many pieces.
+// A piece of a text, and the place after it.
 #[derive(Clone, Copy)]
-pub enum TemplateAnswer {
-    Refused(Refusal),
-    Read(usize),
+pub struct PieceStep {
+    pub piece: Piece,
+    pub next: usize,
 }
 
-// What comes at a place of a text: its end; a part that cannot be read, with why, its number and its place; or a piece and the
-// place after it.
-#[derive(Clone, Copy)]
-pub enum PieceStep {
-    End,
-    Unreadable(Fault),
-    Read {
-        kind: u32,
-        type_id: u32,
-        start: usize,
-        length: usize,
-        next: usize,
-    },
-}
-
-// A template text that was read: the answer, and the numbers of its pieces, spare ones zero.
+// The pieces of a template text, how many and their numbers, spare ones zero.
 #[derive(Clone, Copy)]
 pub struct Template {
-    pub answer: TemplateAnswer,
+    pub count: usize,
     pub pieces: [u32; Template::PIECES],
 }
 
@@ -50,84 +34,64 @@ impl Template {
 }
 
 // Reads a template text. Refused with 8 above 4,096 bytes or 64 parts, then with 19 to 21 for its first part at fault.
-pub fn read_template(text: &[u8]) -> Template
+pub fn read_template(text: &[u8]) -> Result<Template, Refusal>
     ensures { result ≡ template_of (read_template text.now) }
 {
     if !is_short(text) {
-        return refused(Refusal::TemplateTooLong);
+        return Err(Refusal::TemplateTooLong);
     }
     let mut pieces = [0; Template::PIECES];
-    let answer = read_pieces(text, &mut pieces);
-    if let TemplateAnswer::Refused(why) = answer {
-        return refused(why);
-    }
-    Template { answer, pieces }
-}
-
-// A refusal, with no pieces.
-fn refused(why: Refusal) -> Template
-    ensures { result ≡ template_of (unread why) }
-{
-    Template {
-        answer: TemplateAnswer::Refused(why),
-        pieces: [0; Template::PIECES],
-    }
+    let count = read_pieces(text, &mut pieces)?;
+    Ok(Template { count, pieces })
 }
 
 // The pieces of a text, one after another from the first place on, up to the first part that cannot be read.
-fn read_pieces(text: &[u8], pieces: &mut [u32]) -> TemplateAnswer
+fn read_pieces(text: &[u8], pieces: &mut [u32]) -> Result<usize, Refusal>
     requires { RoomFor text.now pieces.old }
     ensures { Gathered text.now pieces.old result pieces.new }
 {
     let mut at: usize = 0;
     let mut count: usize = 0;
     loop {
-        let step = piece_from(text, at);
-        let PieceStep::Read {
-            kind,
-            type_id,
-            start,
-            length,
-            next,
-        } = step
-        else {
-            let PieceStep::Unreadable(fault) = step else {
-                return TemplateAnswer::Read(count);
-            };
-            return TemplateAnswer::Refused(Refusal::PartUnreadable(fault));
+        let Some(step) = piece_from(text, at)? else {
+            return Ok(count);
         };
-        let numbers = [kind, type_id, start as u32, length as u32];
+        let numbers = numbers_of(step.piece);
         let place = count * Template::PIECE_WIDTH;
         lists::copy(&numbers, 0, Template::PIECE_WIDTH, pieces, place);
         count += 1;
-        at = next;
+        at = step.next;
     }
 }
 
-// What comes at a place: every walk over the pieces of a text goes from one to the next by this.
-pub fn piece_from(text: &[u8], at: usize) -> PieceStep
+// A piece as it is stored: its kind, its type, and its id's start and length, 0 for A and B.
+fn numbers_of(piece: Piece) -> [u32; Template::PIECE_WIDTH]
+    requires { SmallId piece.name }
+    ensures { result ≡ told_numbers piece }
+{
+    let type_id = piece.type_id;
+    match piece.name {
+        Name::A => [Kind::A, type_id, 0, 0],
+        Name::B => [Kind::B, type_id, 0, 0],
+        Name::Special { start, length } => [Kind::SPECIAL, type_id, start as u32, length as u32],
+    }
+}
+
+// What comes at a place: a piece, unless the text ends there. Refused with 19 to 21 for a part that cannot be read. Every walk over
+// the pieces of a text goes from one to the next by this.
+pub fn piece_from(text: &[u8], at: usize) -> Result<Option<PieceStep>, Refusal>
     ensures { result ≡ comes_at text.now at }
 {
     let step = template_parts::part_from(text, at);
-    let answer = step.answer;
-    let PartAnswer::Part { start, length } = answer else {
-        return PieceStep::End;
+    let Some(part) = step.answer else {
+        return Ok(None);
     };
-    let piece = template_pieces::read_piece(text, start, length);
-    match piece {
-        PieceAnswer::Unreadable(why) => PieceStep::Unreadable(fault_at(text, start, why)),
-        PieceAnswer::Read {
-            kind,
-            type_id,
-            start,
-            length,
-        } => PieceStep::Read {
-            kind,
-            type_id,
-            start,
-            length,
+    match template_pieces::read_piece(text, part.start, part.length) {
+        Err(why) => Err(Refusal::PartUnreadable(fault_at(text, part.start, why))),
+        Ok(piece) => Ok(Some(PieceStep {
+            piece,
             next: step.next,
-        },
+        })),
     }
 }
 

@@ -5,8 +5,8 @@ use lib.ListN.{length}
 use Rattle.template_text.proofs.Gathering.{Gathering}
 use Rattle.template_text.proofs.read_pieces.Given as goal
 
-abbrev pub invariant-loop-kind : goal.invariant-loop-kind
-invariant-loop-kind l = Gathering l.text l.initial.pieces l.at l.count l.pieces
+abbrev pub invariant-loop-step : goal.invariant-loop-step
+invariant-loop-step l = Gathering l.text l.initial.pieces l.at l.count l.pieces
 
-abbrev pub decreases-loop-kind : goal.decreases-loop-kind
-decreases-loop-kind l = length l.text + 1 - l.at
+abbrev pub decreases-loop-step : goal.decreases-loop-step
+decreases-loop-step l = length l.text + 1 - l.at
