@@ -3,7 +3,6 @@
 use Rattle.std.specs.Prelude.{ℕ, Result, Ok, Err}
 use Rattle.record.specs.Tree.{tops}
 use Rattle.record.specs.Read.{Reading, malformed, holds}
-use Rattle.record.specs.Refusals.{number_of}
 use Rattle.record.specs.declared.Refusal.{Refusal}
 use Rattle.record.specs.declared.Refusal.TheVariants.{MalformedRecord}
 

@@ -80,34 +80,16 @@ returns-then-not-node_fits c =
     due_unfit l.loop-depth.invariant (due d)
     (refuted c.node_fits.result (NodeFits (Nodes l) l.loop-depth.i (length (Rows l) - l.loop-depth.j)) c.if-not-node_fits.true c.node_fits.ensures)
 
-pub bounds-nodes-i : goal.bounds-nodes-i
-bounds-nodes-i c = omega (arith, (fits c.before.before).whole)
-
-pub overflow_mul-j : goal.overflow_mul-j
-overflow_mul-j c = omega (arith, c.shared_slice_known-in-loop-depth-1.given c.loop-depth.i)
-
-pub overflow_add-j : goal.overflow_add-j
-overflow_add-j c = omega (arith, (fits c.before.before).rows)
-
-pub bounds-nodes-i-in-loop-depth : goal.bounds-nodes-i-in-loop-depth
-bounds-nodes-i-in-loop-depth c = omega (arith, (fits c.before.before.before).whole)
-
 pub returns-then-depth-eq-MOST_LEVELS : goal.returns-then-depth-eq-MOST_LEVELS
 returns-then-depth-eq-MOST_LEVELS c =
     let d = joined1 c.before.before.before in
     due_deep d.loop-depth.invariant (due d) (fits (else5 c.before.before)) c.if-w-gt0.true (omega arith)
-
-pub loop-depth-smaller-then-w-gt0 : goal.loop-depth-smaller-then-w-gt0
-loop-depth-smaller-then-w-gt0 c = omega (arith, (fits (else5 c.before.before)).whole)
 
 pub loop-depth-preserved-then-w-gt0 : goal.loop-depth-preserved-then-w-gt0
 loop-depth-preserved-then-w-gt0 c =
     let d = joined1 c.before.before.before in
     let w = c.before.before.before.before in
     due_push d.loop-depth.invariant (due d) (fits w.before) _ refl (omega arith)
-
-pub loop-depth-smaller : goal.loop-depth-smaller
-loop-depth-smaller c = omega (arith, (fits c.before.before.before.before).whole)
 
 pub loop-depth-preserved : goal.loop-depth-preserved
 loop-depth-preserved c =
