@@ -49,13 +49,10 @@ pub struct Members {
 pub fn entries_fit(entries: &[u32], members: usize, pool: usize) -> bool
     ensures { result ≡ all_ok (entry_ok members pool) (entries_in entries.now) }
 {
-    let count = entries.len() / Entry::WIDTH;
-    let mut i: usize = 0;
-    while i < count {
+    for i in 0..entries.len() / Entry::WIDTH {
         if !entry_fits(entries, i, members, pool) {
             return false;
         }
-        i += 1;
     }
     true
 }
@@ -64,9 +61,7 @@ pub fn entries_fit(entries: &[u32], members: usize, pool: usize) -> bool
 pub fn members_fit(members: &[u32], pool: usize) -> bool
     ensures { result ≡ all_ok (member_ok pool) (members_in members.now) }
 {
-    let count = members.len() / Member::WIDTH;
-    let mut i: usize = 0;
-    while i < count {
+    for i in 0..members.len() / Member::WIDTH {
         let at = i * Member::WIDTH;
         let end = end_of(
             members[at + Member::TEXT_START],
@@ -75,7 +70,6 @@ pub fn members_fit(members: &[u32], pool: usize) -> bool
         if end > pool {
             return false;
         }
-        i += 1;
     }
     true
 }
@@ -84,14 +78,11 @@ pub fn members_fit(members: &[u32], pool: usize) -> bool
 pub fn numbers_agree(entries: &[u32]) -> bool
     ensures { result ≡ all_ok agrees (entries_in entries.now) }
 {
-    let count = entries.len() / Entry::WIDTH;
-    let mut i: usize = 0;
-    while i < count {
+    for i in 0..entries.len() / Entry::WIDTH {
         let at = i * Entry::WIDTH;
         if entries[at + Entry::IDS] != entries[at + Entry::TEXTS] {
             return false;
         }
-        i += 1;
     }
     true
 }

@@ -1,33 +1,19 @@
 -- `entries_fit` meets its contract: every entry is tested. Assumes nothing.
 use mathlib.Core.Path.{sym, ◌∙◌}
-use Prim.Native.Nat.{◌-◌, ◌<◌}
 use native.Mathlib.Omega.{arith}
-use lib.ListN.{length}
-use Rattle.template_entries.specs.Table.{no_entry, entries_in}
+use Rattle.template_entries.specs.Table.{no_entry}
 use Rattle.template_entries.proofs.Checking.{check_start, check_on, check_fails, check_end}
 use Rattle.template_entries.proofs.Entries.{entries_number}
 use Rattle.template_entries.proofs.entries_fit.Goals as goal
-use Rattle.template_entries.proofs.entries_fit.Lts as Lts
-use Rattle.template_entries.proofs.entries_fit.Reads as Reads
-use Rattle.template_entries.proofs.entries_fit.Tie as tie
-
--- ---- Places in the code
-
-abbrev In-loop-i : Type 0
-In-loop-i = Lts.In-loop tie.the-claims Reads.Pre Reads.Post goal.the-invariant-loop-i goal.the-decreases-loop-i
-
--- the place is one of an entry
-inside : (c : In-loop-i) → c.loop-i.i < length (entries_in c.args.entries.now)
-inside c = omega (arith, entries_number c.args.entries.now, c.loop-i-test.true)
 
 pub loop-i-init : goal.loop-i-init
 loop-i-init c = check_start _ _
 
 pub returns-then-not-entry_fits : goal.returns-then-not-entry_fits
-returns-then-not-entry_fits c = check_fails _ _ c.loop-i.invariant no_entry (inside c.before.before.before) (sym c.entry_fits.ensures ∙ c.if-not-entry_fits.true)
+returns-then-not-entry_fits c = check_fails _ _ c.loop-i.invariant no_entry (omega (arith, entries_number c.args.entries.now)) (sym c.entry_fits.ensures ∙ c.if-not-entry_fits.true)
 
 pub loop-i-preserved : goal.loop-i-preserved
-loop-i-preserved c = check_on _ _ c.loop-i.invariant no_entry (inside c.before.before.before) (sym c.entry_fits.ensures ∙ c.if-not-entry_fits.false)
+loop-i-preserved c = check_on _ _ c.loop-i.invariant no_entry (omega (arith, entries_number c.args.entries.now)) (sym c.entry_fits.ensures ∙ c.if-not-entry_fits.false)
 
 pub returns : goal.returns
 returns c = check_end _ _ c.loop-i.invariant (omega (arith, entries_number c.args.entries.now, c.loop-i-test.false))
