@@ -1,6 +1,6 @@
 -- Stretches of rows as encodings: their numbers, and how many there are.
 -- Assumes nothing.
-use mathlib.Core.Path.{◌≡◌, refl, sym, ap, ap₂, ◌∙◌}
+use mathlib.Core.Path.{◌≡◌, refl, sym, ap, ◌∙◌}
 use Prim.Native.Nat.{ℕ, zero, suc, ◌+◌, ◌*◌, ◌-◌, ◌≤◌, ◌<◌}
 use native.Mathlib.Numerals.{add-one}
 use native.Mathlib.Omega.{arith}
@@ -42,14 +42,14 @@ pub size_part : (R : List Row) (b : Bounds) → b.end ≤ length R → length (s
 size_part R b h = length-take (b.end - b.start) (drop b.start R) ∙ omega (arith, length-drop b.start R)
 
 -- a part is written by its head and its numbers
-pub part_put : {rows : List ℕ} {j : ℕ} {R : List Row} {b : Bounds} {nodes₀ nodes₁ rows₀ rows₁ : List ℕ} {a c from size : ℕ} → from ≡ b.start → size ≡ b.end - b.start → RowsAt rows j R → b.start ≤ b.end → b.end ≤ length R
-    → nodes₁ ≡ sets nodes₀ a (head (b.end - b.start) 0) → rows₁ ≡ sets rows₀ c (take (size * row_width) (drop (j + from * row_width) rows))
+pub part_put : {rows : List ℕ} {j : ℕ} {R : List Row} {b : Bounds} {nodes₀ nodes₁ rows₀ rows₁ : List ℕ} {a c : ℕ} → RowsAt rows j R → b.start ≤ b.end → b.end ≤ length R
+    → nodes₁ ≡ sets nodes₀ a (head (b.end - b.start) 0) → rows₁ ≡ sets rows₀ c (take ((b.end - b.start) * row_width) (drop (j + b.start * row_width) rows))
     → Put (stretch_of R b ∷ []) nodes₀ a rows₀ c nodes₁ rows₁
 unfolding flat_nodes
-part_put {rows} {j} {R} {b} {nodes₀} {nodes₁} {rows₀} {rows₁} {a} {c} {from} {size} f z h k l n r =
+part_put {rows} {j} {R} {b} {nodes₀} {nodes₁} {rows₀} {rows₁} {a} {c} h k l n r =
     record {
       nodes_put = n ∙ ap (sets nodes₀ a) (sym (flat_plain (stretch_of R b).rows [] ∙ append-nil _ ∙ ap (λ (m : ℕ). head m 0) (size_part R b l)));
-      rows_put = r ∙ ap₂ (λ (f : ℕ) (z : ℕ). sets rows₀ c (take (z * row_width) (drop (j + f * row_width) rows))) f z ∙ ap (sets rows₀ c) (stretch_numbers h b.start b.end k l ∙ sym (flat_part_rows R b));
+      rows_put = r ∙ ap (sets rows₀ c) (stretch_numbers h b.start b.end k l ∙ sym (flat_part_rows R b));
     }
 
 -- ---- How many there are

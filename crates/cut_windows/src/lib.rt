@@ -63,13 +63,11 @@ fn write_windows(
     let count = cut_plan::count_windows(n, max, stride);
     let mut node = a;
     let mut row = b;
-    let mut i: u32 = 0;
-    while i < count {
+    for i in 0..count {
         let window = cut_plan::window(n, max, stride, direction, i);
         write_part(rows, j, window, out_nodes, node, out_rows, row);
         node += Encoding::NODE_WIDTH;
         row += (window.end - window.start) as usize * Encoding::ROW_WIDTH;
-        i += 1;
     }
 }
 

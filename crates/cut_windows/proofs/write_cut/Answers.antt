@@ -5,9 +5,6 @@ use Rattle.cut_plan.proofs.Windows.{windows_count}
 use Rattle.cut_windows.proofs.Gathering.{gathered_put}
 use Rattle.cut_windows.proofs.write_cut.Goals as goal
 
-pub write_windows-requires : goal.write_windows-requires
-write_windows-requires c = c.requires.0
-
 pub overflow_sub-out_nodes : goal.overflow_sub-out_nodes
 overflow_sub-out_nodes c =
     omega (arith, c.requires.1, windows_count c.requires.0.cut c.args.direction)

@@ -1,18 +1,11 @@
 -- `write_head` writes a node without ranges: zeros, and its two counts over them. Assumes nothing.
 use mathlib.Core.Path.{ap, ◌∙◌}
 use Prim.Native.Nat.{ℕ, ◌+◌, ◌*◌}
-use native.Mathlib.Omega.{arith}
 use mathlib.Core.List.{List, ◌∷◌}
-use lib.ListN.{set, replicate, length-set}
+use lib.ListN.{set, replicate}
 use Rattle.record.specs.Tree.{sequences}
 use Rattle.lists.proofs.Writing.{set_first, set_second}
 use Rattle.cut_windows.proofs.write_head.Goals as goal
-
-pub bounds-nodes-at-2 : goal.bounds-nodes-at-2
-bounds-nodes-at-2 c = simp length-set (omega arith)
-
-pub shape_of-nodes : goal.shape_of-nodes
-shape_of-nodes c = simp length-set c.fill.auto.dst
 
 pub returns : goal.returns
 returns c =

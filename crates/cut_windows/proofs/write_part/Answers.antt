@@ -4,4 +4,4 @@ use Rattle.cut_windows.proofs.write_part.Goals as goal
 
 pub returns : goal.returns
 returns c =
-    λ R r l. part_put c.wide.ensures c.wide-2.ensures r c.requires.forward l c.write_head.ensures c.copy.ensures
+    λ R r l. part_put r c.requires.forward l c.write_head.ensures c.copy.ensures

@@ -3,14 +3,14 @@ use Prim.Native.Nat.{◌<◌}
 use native.Mathlib.Omega.{arith}
 use lib.ListN.{length}
 use Rattle.cut_plan.specs.Cut.{bounds, windows_of}
-use Rattle.cut_windows.proofs.Going.{going_start, going_forward, going_fits, going_asks, going_on, going_end}
+use Rattle.cut_windows.proofs.Going.{going_start, going_forward, going_fits, going_asks, going_on}
 use Rattle.cut_windows.proofs.write_windows.Goals as goal
 
 pub loop-i-init : goal.loop-i-init
 loop-i-init c = going_start _ _ _ _ _ _ _ _
 
-pub overflow_sub-window : goal.overflow_sub-window
-overflow_sub-window c =
+pub overflow_sub-row : goal.overflow_sub-row
+overflow_sub-row c =
     let v = c.args in
     let there : c.loop-i.i < length (windows_of v.n v.max v.stride v.direction) = omega (arith, c.count_windows-count.ensures v.direction) in
     going_forward c.requires c.loop-i.invariant c.window-window.result (bounds 0 0) c.window-window.ensures there
@@ -26,15 +26,10 @@ overflow_add-row c =
     let v = c.args in
     let there : c.loop-i.i < length (windows_of v.n v.max v.stride v.direction) = omega (arith, c.count_windows-count.ensures v.direction) in
     let fits = going_fits c.requires c.loop-i.invariant c.window-window.result (bounds 0 0) c.window-window.ensures there in
-    omega (arith, c.wide.ensures, fits)
+    omega (arith, fits)
 
 pub loop-i-preserved : goal.loop-i-preserved
 loop-i-preserved c =
     let v = c.args in
     let there : c.loop-i.i < length (windows_of v.n v.max v.stride v.direction) = omega (arith, c.count_windows-count.ensures v.direction) in
-    rw c.wide.ensures
-    (going_on c.requires c.loop-i.invariant c.window-window.result (bounds 0 0) c.window-window.ensures there c.write_part.auto.out_nodes c.write_part.auto.out_rows c.write_part.ensures)
-
-pub returns : goal.returns
-returns c =
-    going_end c.requires c.loop-i.invariant (omega (arith, c.loop-i-test.false, c.loop-i.invariant.within, c.count_windows-count.ensures c.args.direction))
+    going_on c.requires c.loop-i.invariant c.window-window.result (bounds 0 0) c.window-window.ensures there c.write_part.auto.out_nodes c.write_part.auto.out_rows c.write_part.ensures
