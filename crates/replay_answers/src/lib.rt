@@ -9,28 +9,14 @@ ghost use Rattle.replay_answers.specs.Promises.{Told, comparison};
 pub fn equal(a: &[u32], b: &[u32]) -> bool
     ensures { Decides result (a.now ≡ b.now) }
 {
-    if a.len() != b.len() {
-        return false;
-    }
-    let mut i: usize = 0;
-    while i < a.len() {
-        if a[i] != b[i] {
-            return false;
-        }
-        i += 1;
-    }
-    true
+    a == b
 }
 
 // Whether numbers begin with those of a list.
 pub fn begins(numbers: &[u32], list: &[u32]) -> bool
     ensures { Decides result (take (length list.now) numbers.now ≡ list.now) }
 {
-    let count = list.len();
-    if numbers.len() < count {
-        return false;
-    }
-    equal(&numbers[..count], list)
+    numbers.starts_with(list)
 }
 
 // What a line turned out to be.
@@ -69,35 +55,4 @@ pub fn answered(refusal: u32, lent: &[u32], case: &[u32], at: usize) -> Outcome
         return Outcome::Differs;
     }
     compared(equal(lent, &case[start..]))
-}
-
-// The same of so many lent numbers: an array can be lent whole with no proof of its length.
-pub fn answered_one(refusal: u32, lent: &[u32; 1], case: &[u32], at: usize) -> Outcome
-    ensures { Told result (refusal ∷ lent.now) case.now at }
-{
-    answered(refusal, lent, case, at)
-}
-
-pub fn answered_two(refusal: u32, lent: &[u32; 2], case: &[u32], at: usize) -> Outcome
-    ensures { Told result (refusal ∷ lent.now) case.now at }
-{
-    answered(refusal, lent, case, at)
-}
-
-pub fn answered_three(refusal: u32, lent: &[u32; 3], case: &[u32], at: usize) -> Outcome
-    ensures { Told result (refusal ∷ lent.now) case.now at }
-{
-    answered(refusal, lent, case, at)
-}
-
-pub fn answered_four(refusal: u32, lent: &[u32; 4], case: &[u32], at: usize) -> Outcome
-    ensures { Told result (refusal ∷ lent.now) case.now at }
-{
-    answered(refusal, lent, case, at)
-}
-
-pub fn answered_five(refusal: u32, lent: &[u32; 5], case: &[u32], at: usize) -> Outcome
-    ensures { Told result (refusal ∷ lent.now) case.now at }
-{
-    answered(refusal, lent, case, at)
 }

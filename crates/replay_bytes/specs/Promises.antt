@@ -1,9 +1,8 @@
 -- What the functions that read bytes from a case promise.
 -- Assumes nothing: these are definitions.
-use Rattle.std.specs.Prelude.{ℕ, ◌-◌, ◌≤◌, ◌<◌, ◌≡◌, ◌⊎◌, Bool, true, false, List, length, get_or, take, drop}
+use Rattle.std.specs.Prelude.{ℕ, ◌-◌, ◌≤◌, ◌<◌, ◌≡◌, ◌⊎◌, Bool, true, false, List, length, get_or, take, drop, Option, IfSome}
 use Rattle.replay_cases.specs.Case.{part_at, no_list}
 use Rattle.replay_cases.specs.declared.Part.{Part}
-use Rattle.replay_bytes.specs.declared.Text.{Text}
 use Rattle.replay_bytes.specs.declared.Texts.{Texts}
 
 -- So many numbers lie within what was lent. `whole` follows, and is stated so that they can be lent with no proof.
@@ -26,9 +25,9 @@ pub record BytesAt (case : List ℕ) (at : ℕ) (r : Part) (stored : List ℕ) :
   pub put : take (r.end - r.start) stored ≡ take (r.end - r.start) (drop r.start case)
 
 -- What putting a text, or two, promises: they lie within what was lent for them; one that could be put stands there.
-pub record TextHeld (list : List ℕ) (r : Text) (bytes : List ℕ) : Type 0 where
-  pub held : Within r.count bytes
-  pub put : r.good ≡ true → take r.count bytes ≡ list
+pub record TextHeld (list : List ℕ) (r : Option ℕ) (bytes : List ℕ) : Type 0 where
+  pub held : IfSome r (λ count. Within count bytes)
+  pub put : IfSome r (λ count. take count bytes ≡ list)
 
 pub record TextsHeld (r : Texts) (first second : List ℕ) : Type 0 where
   pub first_held : Within r.first first

@@ -14,20 +14,12 @@ pub fn same_bytes(bytes: &[u8], numbers: &[u32]) -> bool
     if bytes.len() != numbers.len() {
         return false;
     }
-    let mut i: usize = 0;
-    while i < bytes.len() {
-        if number_of(bytes[i]) != numbers[i] {
+    for (i, byte) in bytes.iter().enumerate() {
+        if *byte as u32 != numbers[i] {
             return false;
         }
-        i += 1;
     }
     true
-}
-
-fn number_of(byte: u8) -> u32
-    ensures { result ≡ byte }
-{
-    byte as u32
 }
 
 const LARGEST_BYTE: u32 = 255;
@@ -40,14 +32,11 @@ pub fn put_bytes(numbers: &[u32], bytes: &mut [u8]) -> bool
     if numbers.len() > bytes.len() {
         return false;
     }
-    let mut i: usize = 0;
-    while i < numbers.len() {
-        let number = numbers[i];
-        if number > LARGEST_BYTE {
+    for (i, number) in numbers.iter().enumerate() {
+        if *number > LARGEST_BYTE {
             return false;
         }
-        bytes[i] = number as u8;
-        i += 1;
+        bytes[i] = *number as u8;
     }
     true
 }
@@ -65,27 +54,14 @@ pub fn bytes_at(case: &[u32], at: usize, bytes: &mut [u8]) -> Part
     replay_cases::no_list(case.len())
 }
 
-// Whether a list is a text, and how many bytes it has.
-#[derive(Clone, Copy)]
-pub struct Text {
-    pub good: bool,
-    pub count: usize,
-}
-
-// A list of a case, put at the start of what is lent for it.
-pub fn text_of(list: &[u32], bytes: &mut [u8]) -> Text
+// A list of a case, put at the start of what is lent for it: how many bytes it has, if it is a text.
+pub fn text_of(list: &[u32], bytes: &mut [u8]) -> Option<usize>
     ensures { TextHeld list.now result bytes.new }
 {
     if put_bytes(list, bytes) {
-        return Text {
-            good: true,
-            count: list.len(),
-        };
+        return Some(list.len());
     }
-    Text {
-        good: false,
-        count: 0,
-    }
+    None
 }
 
 // Whether two texts of a case are there, how many bytes they have, and the place after both.

@@ -1,7 +1,6 @@
 -- A line's numbers that are being gathered: what holds after each, and the answer at each way out. Assumes nothing.
 use Prim.Native.Nat.{ℕ, zero, suc, ◌+◌, ◌-◌, ◌≤◌, ◌<◌}
 use mathlib.Core.Path.{◌≡◌, refl, ap, sym, ◌∙◌}
-use mathlib.Core.Bool.{true, false}
 use mathlib.Core.List.{List, [], ◌∷◌, ◌++◌, append-nil}
 use lib.ListN.{length, get_or, take, set, length-append, length-set}
 use lib.Seq.{append_snoc, take-suc-set, length-take-le}
@@ -48,8 +47,8 @@ start line stored =
     }
 
 pub refused : (line : List ℕ) (room : ℕ) (stored : List ℕ) → unreadable ≡ fitted room (case_of line)
-    → GatheredCase line room (record { good = false; count = 0 }) stored
-refused line room stored none = record { exact = none; counts = omega arith; whole = refl }
+    → GatheredCase line room None stored
+refused line room stored none = record { exact = none; counts = tt; whole = tt }
 
 from_bad : (line : List ℕ) (at most : ℕ) → number_at line at ≡ None → case_from most line at ≡ unreadable
 unfolding case_from
@@ -98,7 +97,7 @@ module _ (line : List ℕ) (room : ℕ) (stored : List ℕ) (at count : ℕ) (g 
       with_it : case_of line ≡ joined (take (count + 1) (set stored count v)) (rest line next (case_from (g.most - 1) line))
       with_it = read ∙ joined_led (take count stored) v (rest line next (case_from (g.most - 1) line)) ∙ rw kept
 
-      pub ends_good : length line ≤ next → GatheredCase line room (record { good = true; count = count + 1 }) (set stored count v)
+      pub ends_good : length line ≤ next → GatheredCase line room (Some (count + 1)) (set stored count v)
       ends_good end =
           let fits : length (take (count + 1) (set stored count v)) ≤ room = omega (arith, length_kept, g.same) in
           record {

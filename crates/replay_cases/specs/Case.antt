@@ -3,7 +3,6 @@
 use Rattle.std.specs.Prelude.{ℕ, zero, suc, ◌+◌, ◌-◌, Bool, true, false, List, [], ◌∷◌, length, get_or, take, leb, ltb, eqb, Option, Some, None}
 use Rattle.lines.specs.Decimal.{number_at}
 use Rattle.lines.specs.declared.Number.{Number}
-use Rattle.replay_cases.specs.declared.Numbers.{Numbers}
 use Rattle.replay_cases.specs.declared.Part.{Part}
 
 -- what stands between two numbers of a line: the byte of a space
@@ -49,8 +48,9 @@ fitted room unreadable = unreadable
 fitted room (numbers ns) = pick_case (leb (length ns) room) (numbers ns) unreadable
 
 -- the case that an answer and the numbers beside it stand for
-abbrev pub answered_case : Numbers → List ℕ → Case
-answered_case r stored = pick_case r.good (numbers (take r.count stored)) unreadable
+abbrev pub answered_case : Option ℕ → List ℕ → Case
+answered_case None stored = unreadable
+answered_case (Some count) stored = numbers (take count stored)
 
 abbrev pub pick_part : Bool → Part → Part → Part
 pick_part true a b = a

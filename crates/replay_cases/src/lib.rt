@@ -11,50 +11,34 @@ use lines::Number;
 
 const SPACE: u8 = b' ';
 
-// Whether a line could be read, and how many numbers it has: 0 if it could not.
-#[derive(Clone, Copy)]
-pub struct Numbers {
-    pub good: bool,
-    pub count: usize,
-}
-
-// Puts the numbers of a line at the start of `numbers`. A line with more of them than there is room for cannot be read.
-// What stands past the count afterwards is left open.
-pub fn read_numbers(line: &[u8], numbers: &mut [u32]) -> Numbers
+// Puts the numbers of a line at the start of `numbers`, and answers how many these are: none, if the line cannot be read, as one
+// with more of them than there is room for. What stands past the count afterwards is left open.
+pub fn read_numbers(line: &[u8], numbers: &mut [u32]) -> Option<usize>
     ensures { GatheredCase line.now (length numbers.old) result numbers.new }
 {
     let mut at: usize = 0;
     let mut count: usize = 0;
+    // A loop: where the next number starts, and whether there is one, is said by what was read.
     loop {
-        let Some(Number { value, next }) = lines::read_number(line, at) else {
-            return Numbers {
-                good: false,
-                count: 0,
-            };
-        };
+        let Number { value, next } = lines::read_number(line, at)?;
         if count == numbers.len() {
-            return Numbers {
-                good: false,
-                count: 0,
-            };
+            return None;
         }
         numbers[count] = value;
         count += 1;
         if line.len() <= next {
-            return Numbers { good: true, count };
+            return Some(count);
         }
         if line[next] != SPACE {
-            return Numbers {
-                good: false,
-                count: 0,
-            };
+            return None;
         }
         at = next + 1;
     }
 }
 
 // A list within a case: its numbers are `case[start..end]`, and what follows it starts at `end`.
-// Where there is no list that fits, the part is empty and at the case's end.
+// Where there is no list that fits, the part is empty and at the case's end: a flag and no `Option`, since what follows is looked
+// for there.
 #[derive(Clone, Copy)]
 pub struct Part {
     pub fits: bool,
@@ -78,11 +62,7 @@ pub fn list_at(case: &[u32], at: usize) -> Part
             };
         }
     }
-    Part {
-        fits: false,
-        start: total,
-        end: total,
-    }
+    no_list(total)
 }
 
 // No list, at the end of a case of so many numbers.

@@ -59,8 +59,7 @@ pub fn counted(rt: &(impl Print + Eprint), before: Progress, outcome: Outcome) -
 // Whether it could be printed.
 fn print_outcome(rt: &(impl Print + Eprint), line: u64, outcome: Outcome) -> bool {
     match outcome {
-        Outcome::Skipped => true,
-        Outcome::Same => true,
+        Outcome::Skipped | Outcome::Same => true,
         Outcome::Differs => print_line(rt, line, b" differs\n"),
         Outcome::Bad => print_line(rt, line, b" bad\n"),
     }
@@ -70,47 +69,33 @@ fn print_outcome(rt: &(impl Print + Eprint), line: u64, outcome: Outcome) -> boo
 fn one_more(count: u64) -> u64
     ensures { result ≡ more count }
 {
-    if count < u64::MAX { count + 1 } else { count }
+    count.saturating_add(1)
 }
 
 fn print_line(rt: &(impl Print + Eprint), number: u64, what: &[u8]) -> bool {
-    if !print_count(rt, b"line ", number) {
-        return false;
-    }
-    output::print(rt, what).all
+    print_count(rt, b"line ", number) && output::print(rt, what).all
 }
 
 // Prints the counts, once all lines have ended: not if a read or a write failed, of which standard error has a line.
 pub fn print_counts(rt: &(impl Print + Eprint), progress: Progress, unread: Unread) -> Progress
     ensures { Kept progress result }
 {
-    let mut after = progress;
-    if unread.failed {
-        return after;
+    if unread.failed || progress.failed {
+        return progress;
     }
-    if progress.failed {
-        return after;
+    Progress {
+        failed: !print_all(rt, progress),
+        ..progress
     }
-    after.failed = !print_all(rt, progress);
-    after
 }
 
 fn print_all(rt: &(impl Print + Eprint), progress: Progress) -> bool {
-    if !print_count(rt, b"cases ", progress.cases) {
-        return false;
-    }
-    if !print_count(rt, b", differ ", progress.differ) {
-        return false;
-    }
-    if !print_count(rt, b", bad ", progress.bad) {
-        return false;
-    }
-    output::print(rt, b"\n").all
+    print_count(rt, b"cases ", progress.cases)
+        && print_count(rt, b", differ ", progress.differ)
+        && print_count(rt, b", bad ", progress.bad)
+        && output::print(rt, b"\n").all
 }
 
 fn print_count(rt: &(impl Print + Eprint), label: &[u8], count: u64) -> bool {
-    if !output::print(rt, label).all {
-        return false;
-    }
-    output::print_number(rt, count).all
+    output::print(rt, label).all && output::print_number(rt, count).all
 }

@@ -4,13 +4,8 @@
 // the Rust makes.
 #![tactic(auto)]
 
-ghost use Rattle.std.specs.Prelude.{length};
-ghost use Rattle.replay_program.specs.Promises.{Inside};
-
-use input_lines::PIECE;
 use replay_answers::Outcome;
 use replay_outputs::{BEFORE, BEFORE_COUNT, OUTPUT};
-use replay_program::{Case, LINE, NUMBERS};
 
 // Operation numbers, the first number of each case.
 const GET_SEQUENCE_IDS: u32 = 5;
@@ -20,57 +15,7 @@ const FROM_TOKENS: u32 = 12;
 const SET_SEQUENCE_ID: u32 = 13;
 
 fn main(rt: HostRuntime) {
-    let mut piece = [0u8; PIECE];
-    let mut line = [0u8; LINE];
-    let mut numbers = [0u32; NUMBERS];
-    replay_input(&rt, &mut piece, &mut line, &mut numbers);
-}
-
-// Replays all of the input, up to a read or a write that fails. A proved loop has to end, and nothing says that an input does:
-// so the turns are counted, up to a number that no run uses up.
-fn replay_input(
-    rt: &(impl Input + Print + Eprint),
-    piece: &mut [u8; PIECE],
-    line: &mut [u8; LINE],
-    numbers: &mut [u32; NUMBERS],
-) {
-    let mut progress = replay_counts::start();
-    let mut unread = input::start();
-    for _ in 0..u64::MAX {
-        let next = replay_program::next_case(rt, piece, line, numbers, unread);
-        unread = next.unread;
-        if !next.found {
-            break;
-        }
-        let case = next.case;
-        progress = replay_counts::counted(rt, progress, replay_parts(case, numbers));
-        if progress.failed {
-            break;
-        }
-    }
-    replay_counts::print_counts(rt, progress, unread);
-}
-
-fn replay_parts(case: Case, numbers: &[u32]) -> Outcome
-    requires { Inside case (length numbers.now) }
-{
-    if case.skipped {
-        return Outcome::Skipped;
-    }
-    if !case.good {
-        return Outcome::Bad;
-    }
-    let first_start = case.first.start;
-    let first_end = case.first.end;
-    let second_start = case.second.start;
-    let second_end = case.second.end;
-    let end = case.end;
-    replay(
-        case.operation,
-        &numbers[first_start..first_end],
-        &numbers[second_start..second_end],
-        &numbers[second_end..end],
-    )
+    replay_program::replay_all(&rt, replay);
 }
 
 // `rest` is what follows the two lists in the case.

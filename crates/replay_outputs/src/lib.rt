@@ -25,8 +25,7 @@ fn length_at(case: &[u32], at: usize, lent: &[u32]) -> usize
     ensures { LengthAt case.now at lent.now result }
 {
     let length = replay_cases::number_at(case, at) as usize;
-    let most = lent.len();
-    if length < most { length } else { most }
+    length.min(lent.len())
 }
 
 // How many numbers are lent for the nodes and for the rows: as many as the two lists of the answers have.
@@ -45,7 +44,7 @@ pub fn rows_lent(answers: &[u32], lent: &[u32]) -> usize
 
 // Whether the answers are the refusal, the counts and what was left in the output. Answers that do not end with the two lists
 // are not the same.
-fn answered(
+pub fn answered_whole(
     refusal: u32,
     counts: &[usize; 2],
     nodes: &[u32],
@@ -61,31 +60,13 @@ fn answered(
     left(nodes, rows, answers)
 }
 
-// The same of outputs that are arrays: these can be lent whole with no proof of their length.
-pub fn answered_whole(
-    refusal: u32,
-    counts: &[usize; 2],
-    nodes: &[u32; OUTPUT],
-    rows: &[u32; OUTPUT],
-    answers: &[u32],
-) -> Outcome
-    ensures stored { result ≡ Outcome.Same → Stored refusal counts.now nodes.now rows.now answers.now }
-    ensures ends { result ≡ Outcome.Same → Ends answers.now }
-{
-    answered(refusal, counts, nodes, rows, answers)
-}
-
 // Whether the answers begin with the refusal and the counts.
 fn told(refusal: u32, counts: &[usize; 2], answers: &[u32]) -> bool
     ensures { result ≡ true → ToldFirst refusal counts.now answers.now }
 {
-    if replay_cases::number_at(answers, 0) != refusal {
-        return false;
-    }
-    if replay_cases::number_at(answers, 1) as usize != counts[0] {
-        return false;
-    }
-    replay_cases::number_at(answers, 2) as usize == counts[1]
+    replay_cases::number_at(answers, 0) == refusal
+        && replay_cases::number_at(answers, 1) as usize == counts[0]
+        && replay_cases::number_at(answers, 2) as usize == counts[1]
 }
 
 // Whether the two lists that end the answers are what was left in the output.
@@ -116,12 +97,11 @@ const NOT_LEFT: u32 = 4294967295;
 pub fn left_as(number: u32, nodes: &[u32], rows: &[u32], refusal: u32) -> u32
     ensures { LeftAs number nodes.now rows.now refusal result }
 {
-    if all_are(number, nodes) {
-        if all_are(number, rows) {
-            return refusal;
-        }
+    if all_are(number, nodes) && all_are(number, rows) {
+        refusal
+    } else {
+        NOT_LEFT
     }
-    NOT_LEFT
 }
 
 fn all_are(number: u32, store: &[u32]) -> bool

@@ -1,8 +1,9 @@
 -- Where a case lies among the numbers that were read.
 -- Assumes nothing: these are definitions.
-use Rattle.std.specs.Prelude.{Bool, false, ℕ, ◌≤◌}
-use Rattle.replay_cases.specs.Case.{no_list}
+use Rattle.std.specs.Prelude.{Bool, true, false, ℕ, ◌≤◌, Result, Ok, Err}
 use Rattle.replay_program.specs.declared.Case.{Case}
+use Rattle.replay_program.specs.declared.NoCase.{NoCase}
+use Rattle.replay_program.specs.declared.NoCase.TheVariants.{Skipped, Bad}
 
 -- Stated so that its lists, and what follows them, can be lent with no proof.
 pub record Inside (r : Case) (total : ℕ) : Type 0 where
@@ -13,7 +14,8 @@ pub record Inside (r : Case) (total : ℕ) : Type 0 where
   pub rest : r.second.end ≤ r.end
   pub rest_inside : r.end ≤ total
 
--- none, of a line that is skipped or cannot be read
-abbrev pub no_case : Bool → Case
-no_case skipped =
-    record { skipped = skipped; good = false; operation = 0; first = no_list 0; second = no_list 0; end = 0 }
+-- whether a line is one that is skipped
+abbrev pub is_skipped : Result Case NoCase → Bool
+is_skipped (Err Skipped) = true
+is_skipped (Err Bad) = false
+is_skipped (Ok case) = false

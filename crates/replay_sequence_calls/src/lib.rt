@@ -48,7 +48,7 @@ pub fn sequence_range(nodes: &[u32], rows: &[u32], rest: &[u32]) -> Outcome
     let sequence = replay_cases::number_at(rest, 0);
     let mut answer = [BEFORE; 2];
     let refusal = c_sequences::noddrefyr_sequence_range(nodes, rows, sequence, &mut answer);
-    replay_answers::answered_two(refusal, &answer, rest, 1)
+    replay_answers::answered(refusal, &answer, rest, 1)
 }
 
 // `3 nodes rows refusal count`
@@ -59,7 +59,7 @@ pub fn n_sequences(nodes: &[u32], rows: &[u32], rest: &[u32]) -> Outcome
 {
     let mut answer = [BEFORE; 1];
     let refusal = c_sequences::noddrefyr_n_sequences(nodes, rows, &mut answer);
-    replay_answers::answered_one(refusal, &answer, rest, 0)
+    replay_answers::answered(refusal, &answer, rest, 0)
 }
 
 // `4 nodes rows token refusal found sequence place`
@@ -71,5 +71,5 @@ pub fn token_to_sequence(nodes: &[u32], rows: &[u32], rest: &[u32]) -> Outcome
     let token = replay_cases::number_at(rest, 0);
     let mut answer = [BEFORE; 3];
     let refusal = c_sequences::noddrefyr_token_to_sequence(nodes, rows, token, &mut answer);
-    replay_answers::answered_three(refusal, &answer, rest, 1)
+    replay_answers::answered(refusal, &answer, rest, 1)
 }

@@ -4,12 +4,7 @@
 // the comparison with the Rust makes.
 #![tactic(auto)]
 
-ghost use Rattle.std.specs.Prelude.{length};
-ghost use Rattle.replay_program.specs.Promises.{Inside};
-
-use input_lines::PIECE;
 use replay_answers::Outcome;
-use replay_program::{Case, LINE, NUMBERS};
 use replay_template_call::TEXT;
 
 // Operation numbers, the first number of each case.
@@ -35,57 +30,7 @@ const LARGEST_PLACE: usize = 4294967295;
 const NOT_STORED: u32 = 4294967295;
 
 fn main(rt: HostRuntime) {
-    let mut piece = [0u8; PIECE];
-    let mut line = [0u8; LINE];
-    let mut numbers = [0u32; NUMBERS];
-    replay_input(&rt, &mut piece, &mut line, &mut numbers);
-}
-
-// Replays all of the input, up to a read or a write that fails. A proved loop has to end, and nothing says that an input does:
-// so the turns are counted, up to a number that no run uses up.
-fn replay_input(
-    rt: &(impl Input + Print + Eprint),
-    piece: &mut [u8; PIECE],
-    line: &mut [u8; LINE],
-    numbers: &mut [u32; NUMBERS],
-) {
-    let mut progress = replay_counts::start();
-    let mut unread = input::start();
-    for _ in 0..u64::MAX {
-        let next = replay_program::next_case(rt, piece, line, numbers, unread);
-        unread = next.unread;
-        if !next.found {
-            break;
-        }
-        let case = next.case;
-        progress = replay_counts::counted(rt, progress, replay_parts(case, numbers));
-        if progress.failed {
-            break;
-        }
-    }
-    replay_counts::print_counts(rt, progress, unread);
-}
-
-fn replay_parts(case: Case, numbers: &[u32]) -> Outcome
-    requires { Inside case (length numbers.now) }
-{
-    if case.skipped {
-        return Outcome::Skipped;
-    }
-    if !case.good {
-        return Outcome::Bad;
-    }
-    let first_start = case.first.start;
-    let first_end = case.first.end;
-    let second_start = case.second.start;
-    let second_end = case.second.end;
-    let end = case.end;
-    replay(
-        case.operation,
-        &numbers[first_start..first_end],
-        &numbers[second_start..second_end],
-        &numbers[second_end..end],
-    )
+    replay_program::replay_all(&rt, replay);
 }
 
 // `first` and `second` are the lists that the case begins with, `rest` what follows them.
@@ -135,7 +80,7 @@ fn validated(
         as_stored(fault[1]),
         as_stored(fault[2]),
     ];
-    replay_answers::answered_three(refusal, &answer, rest, held.end)
+    replay_answers::answered(refusal, &answer, rest, held.end)
 }
 
 // A number as a case has it. One that is too large is the largest, which no case stores.
@@ -184,5 +129,5 @@ fn sum_stored(refusal: u32, sum: u64, fault: [usize; 2], rest: &[u32], at: usize
         return Outcome::Differs;
     }
     let answer = [sum as u32, as_stored(fault[0]), as_stored(fault[1])];
-    replay_answers::answered_three(refusal, &answer, rest, at)
+    replay_answers::answered(refusal, &answer, rest, at)
 }

@@ -3,13 +3,8 @@
 // function, an arm of `replay`, and its cases, which the comparison with the Rust makes.
 #![tactic(auto)]
 
-ghost use Rattle.std.specs.Prelude.{length};
-ghost use Rattle.replay_program.specs.Promises.{Inside};
-
-use input_lines::PIECE;
 use record::Row;
 use replay_answers::Outcome;
-use replay_program::{Case, LINE, NUMBERS};
 
 // Operation numbers, the first number of each case.
 const TEXT: u32 = 14;
@@ -25,57 +20,7 @@ const POOL: usize = 64;
 const BEFORE: u32 = 7;
 
 fn main(rt: HostRuntime) {
-    let mut piece = [0u8; PIECE];
-    let mut line = [0u8; LINE];
-    let mut numbers = [0u32; NUMBERS];
-    replay_input(&rt, &mut piece, &mut line, &mut numbers);
-}
-
-// Replays all of the input, up to a read or a write that fails. A proved loop has to end, and nothing says that an input does:
-// so the turns are counted, up to a number that no run uses up.
-fn replay_input(
-    rt: &(impl Input + Print + Eprint),
-    piece: &mut [u8; PIECE],
-    line: &mut [u8; LINE],
-    numbers: &mut [u32; NUMBERS],
-) {
-    let mut progress = replay_counts::start();
-    let mut unread = input::start();
-    for _ in 0..u64::MAX {
-        let next = replay_program::next_case(rt, piece, line, numbers, unread);
-        unread = next.unread;
-        if !next.found {
-            break;
-        }
-        let case = next.case;
-        progress = replay_counts::counted(rt, progress, replay_parts(case, numbers));
-        if progress.failed {
-            break;
-        }
-    }
-    replay_counts::print_counts(rt, progress, unread);
-}
-
-fn replay_parts(case: Case, numbers: &[u32]) -> Outcome
-    requires { Inside case (length numbers.now) }
-{
-    if case.skipped {
-        return Outcome::Skipped;
-    }
-    if !case.good {
-        return Outcome::Bad;
-    }
-    let first_start = case.first.start;
-    let first_end = case.first.end;
-    let second_start = case.second.start;
-    let second_end = case.second.end;
-    let end = case.end;
-    replay(
-        case.operation,
-        &numbers[first_start..first_end],
-        &numbers[second_start..second_end],
-        &numbers[second_end..end],
-    )
+    replay_program::replay_all(&rt, replay);
 }
 
 // `rest` is what follows the nodes and the rows in the case.
@@ -115,7 +60,7 @@ fn text_found(
         &added[..added_bytes],
         &mut answer,
     );
-    replay_answers::answered_four(refusal, &answer, rest, held.end)
+    replay_answers::answered(refusal, &answer, rest, held.end)
 }
 
 // `15 nodes rows node refusal found start end`
@@ -123,7 +68,7 @@ fn span(nodes: &[u32], rows: &[u32], rest: &[u32]) -> Outcome {
     let node = replay_cases::number_at(rest, 0);
     let mut answer = [BEFORE; 3];
     let refusal = c_texts::noddrefyr_span(nodes, rows, node, &mut answer);
-    replay_answers::answered_three(refusal, &answer, rest, 1)
+    replay_answers::answered(refusal, &answer, rest, 1)
 }
 
 // `17 nodes rows row tokens added part`, the two pools and the part as lists of bytes. It returns a part of a lent slice,
