@@ -1,3 +1,2 @@
 pub mod Chars
 pub mod Answers
-pub mod Promises

@@ -5,46 +5,45 @@
 ghost use Rattle.std.specs.Prelude.{true, ◌≡◌};
 ghost use Rattle.lookup_chars.specs.Answers.{word_answer, char_to_token_answer, char_to_word_answer};
 ghost use Rattle.lookup_chars.specs.Chars.{char_to_token, char_to_word};
-ghost use Rattle.lookup_chars.specs.Promises.{word_alone};
 ghost use Rattle.lookup_search.specs.Answers.{token_answer};
 ghost use Rattle.lookup_search.specs.Promises.{OfOne};
 ghost use Rattle.record.specs.Read.{read, is_one};
 
-use lookup_search::TokenAnswer;
-use lookup_tokens::TokenWordAnswer;
-use record::{Place, Refusal, Word};
-
-// The word that holds a character.
-#[derive(Clone, Copy)]
-pub enum WordAnswer {
-    Refused(Refusal),
-    Nothing,
-    Found(Word),
-}
+use record::{Place, Refusal, Row, Word};
 
 // The row of a sequence that holds a character. Refusal: 1.
-pub fn char_to_token(nodes: &[u32], rows: &[u32], place: Place, sequence_id: u32) -> TokenAnswer
+pub fn char_to_token(
+    nodes: &[u32],
+    rows: &[u32],
+    place: Place,
+    sequence_id: u32,
+) -> Result<Option<Row>, Refusal>
     ensures { result ≡ char_to_token_answer (read nodes.now rows.now) place.0 sequence_id }
 {
-    if record_check::is_one(nodes, rows) {
-        return token_of_char(nodes, rows, place, sequence_id);
+    if !record_check::is_one(nodes, rows) {
+        return Err(Refusal::MalformedRecord);
     }
-    TokenAnswer::Refused(Refusal::MalformedRecord)
+    Ok(token_of_char(nodes, rows, place, sequence_id))
 }
 
 // The word of a sequence that holds a character. Refusal: 1.
-pub fn char_to_word(nodes: &[u32], rows: &[u32], place: Place, sequence_id: u32) -> WordAnswer
+pub fn char_to_word(
+    nodes: &[u32],
+    rows: &[u32],
+    place: Place,
+    sequence_id: u32,
+) -> Result<Option<Word>, Refusal>
     ensures { result ≡ char_to_word_answer (read nodes.now rows.now) place.0 sequence_id }
 {
-    if record_check::is_one(nodes, rows) {
-        return word_of_char(nodes, rows, place, sequence_id);
+    if !record_check::is_one(nodes, rows) {
+        return Err(Refusal::MalformedRecord);
     }
-    WordAnswer::Refused(Refusal::MalformedRecord)
+    Ok(word_of_char(nodes, rows, place, sequence_id))
 }
 
 // ---- The same, where the record is known to be one encoding
 
-fn token_of_char(nodes: &[u32], rows: &[u32], place: Place, sequence_id: u32) -> TokenAnswer
+fn token_of_char(nodes: &[u32], rows: &[u32], place: Place, sequence_id: u32) -> Option<Row>
     requires { is_one (read nodes.now rows.now) ≡ true }
     ensures { OfOne nodes.now rows.now
         (λ E. result ≡ token_answer (char_to_token E place.0 sequence_id)) }
@@ -53,30 +52,12 @@ fn token_of_char(nodes: &[u32], rows: &[u32], place: Place, sequence_id: u32) ->
     lookup_search::first_holding(rows, bounds.start, bounds.end, place.0)
 }
 
-fn word_of_char(nodes: &[u32], rows: &[u32], place: Place, sequence_id: u32) -> WordAnswer
+fn word_of_char(nodes: &[u32], rows: &[u32], place: Place, sequence_id: u32) -> Option<Word>
     requires { is_one (read nodes.now rows.now) ≡ true }
     ensures { OfOne nodes.now rows.now
         (λ E. result ≡ word_answer (char_to_word E place.0 sequence_id)) }
 {
-    let holding = token_of_char(nodes, rows, place, sequence_id);
-    match holding {
-        TokenAnswer::Refused(refusal) => WordAnswer::Refused(refusal),
-        TokenAnswer::Nothing => WordAnswer::Nothing,
-        TokenAnswer::Found(token) => word_alone(lookup_tokens::word_of_token(nodes, rows, token)),
-    }
-}
-
-// The word alone of an answer that has a sequence and a place too.
-fn word_alone(found: TokenWordAnswer) -> WordAnswer
-    ensures { result ≡ word_alone found }
-{
-    match found {
-        TokenWordAnswer::Refused(refusal) => WordAnswer::Refused(refusal),
-        TokenWordAnswer::Nothing => WordAnswer::Nothing,
-        TokenWordAnswer::Found {
-            sequence: _,
-            place: _,
-            word,
-        } => WordAnswer::Found(word),
-    }
+    let token = token_of_char(nodes, rows, place, sequence_id)?;
+    let found = lookup_tokens::word_of_token(nodes, rows, token)?;
+    Some(found.word)
 }
