@@ -13,7 +13,7 @@ use Rattle.lookup_ranges.proofs.First.{last_found, last_nothing}
 use Rattle.template_entries.specs.Table.{Entry, Special, entry_width, member_width, no_entry, entries_in, members_in, special_of}
 use Rattle.template_find.specs.Promises.{entry_has_id, entry_answer, IdsInside}
 use Rattle.template_find.specs.Last.{no_special, at_place, has_id, last_with}
-use Rattle.template_find.specs.declared.FoundEntry.TheVariants.{Unknown, At}
+use Rattle.std.specs.Prelude.{Some, None}
 use Rattle.template_entries.proofs.Entries.{entries_number}
 use Rattle.template_entries.proofs.Sound.{EntryFits, TableHolds}
 
@@ -28,17 +28,17 @@ map_nth f [] k d e h = absurd (omega arith)
 map_nth f (x ∷ xs) zero d e h = refl
 map_nth f (x ∷ xs) (suc k) d e h = map_nth f xs k d e (omega arith)
 
-found_place : (o : Option ℕ) {k : ℕ} → entry_answer o ≡ At k → o ≡ some k
+found_place : (o : Option ℕ) {k : ℕ} → entry_answer o ≡ Some k → o ≡ some k
 unfolding entry_answer
 found_place nothing e = cc
 found_place (some n) e = cc
 
-found_none : (o : Option ℕ) → entry_answer o ≡ Unknown → o ≡ nothing
+found_none : (o : Option ℕ) → entry_answer o ≡ None → o ≡ nothing
 unfolding entry_answer
 found_none nothing e = refl
 found_none (some n) e = cc
 
-module _ (entries added id : List ℕ) {k : ℕ} (e : entry_answer (last_from (entry_has_id added id) 0 (entries_in entries)) ≡ At k) where
+module _ (entries added id : List ℕ) {k : ℕ} (e : entry_answer (last_from (entry_has_id added id) 0 (entries_in entries)) ≡ Some k) where
   found_at : last_from (entry_has_id added id) 0 (entries_in entries) ≡ some k
   found_at = found_place (last_from (entry_has_id added id) 0 (entries_in entries)) e
 
@@ -63,7 +63,7 @@ module _ {entries members added : List ℕ} {table : List Special} (h : TableHol
   unfolding last_with
   missing id e = ap (at_place table) (search_is id ∙ e)
 
-  pub unknown_is : (id : List ℕ) → entry_answer (last_from (entry_has_id added id) 0 (entries_in entries)) ≡ Unknown → last_with id table ≡ nothing
+  pub unknown_is : (id : List ℕ) → entry_answer (last_from (entry_has_id added id) 0 (entries_in entries)) ≡ None → last_with id table ≡ nothing
   unknown_is id e = missing id (found_none (last_from (entry_has_id added id) 0 (entries_in entries)) e)
 
   -- some entry has the id
@@ -82,7 +82,7 @@ module _ {entries members added : List ℕ} {table : List Special} (h : TableHol
   abbrev pub special_at : ℕ → Special
   special_at k = special_of (members_in members) added (get_or (entries_in entries) k no_entry)
 
-  module _ (id : List ℕ) {k : ℕ} (e : entry_answer (last_from (entry_has_id added id) 0 (entries_in entries)) ≡ At k) where
+  module _ (id : List ℕ) {k : ℕ} (e : entry_answer (last_from (entry_has_id added id) 0 (entries_in entries)) ≡ Some k) where
     pub found_is : last_with id table ≡ some (special_at k)
     unfolding last_with
     found_is =

@@ -1,20 +1,18 @@
 -- What the search for an entry asks and gives, over the numbers of a table.
 -- Assumes nothing: these are definitions.
-use Rattle.std.specs.Prelude.{Bool, ℕ, ◌+◌, ◌/◌, ◌≤◌, ◌<◌, List, length}
+use Rattle.std.specs.Prelude.{Bool, ℕ, ◌+◌, ◌/◌, ◌≤◌, ◌<◌, List, length, Option as Answer, Some, None}
 use Rattle.std.proofs.Math.Option.{Option, none as nothing, some}
 use Rattle.lists.specs.Lists.{All}
 use Rattle.template_pieces.specs.Piece.{same}
 use Rattle.template_entries.specs.Table.{Entry, entry_width, entries_in, id_of}
-use Rattle.template_find.specs.declared.FoundEntry.{FoundEntry}
-use Rattle.template_find.specs.declared.FoundEntry.TheVariants.{Unknown, At}
 
 -- whether an entry whose id lies in pool 1 has an id
 abbrev pub entry_has_id : List ℕ → List ℕ → Entry → Bool
 entry_has_id added id e = same (id_of added e) id
 
-unfoldable pub entry_answer : Option ℕ → FoundEntry
-entry_answer nothing = Unknown
-entry_answer (some k) = At k
+unfoldable pub entry_answer : Option ℕ → Answer ℕ
+entry_answer nothing = None
+entry_answer (some k) = Some k
 
 -- Ids that lie in pool 1: what a table that is not refused has.
 pub record IdsInside (entries added : List ℕ) : Type 0 where

@@ -9,27 +9,18 @@ ghost use Rattle.template_pieces.specs.Piece.{same};
 
 use template_entries::Entry;
 
-// Where the entry of an id stands in the table.
-#[derive(Clone, Copy)]
-pub enum FoundEntry {
-    Unknown,
-    At(usize),
-}
-
-// The entry of an id: of equal ids the last counts.
-pub fn find(entries: &[u32], added: &[u8], id: &[u8]) -> FoundEntry
+// The place of the entry of an id in the table, if there is one: of equal ids the last counts.
+pub fn find(entries: &[u32], added: &[u8], id: &[u8]) -> Option<usize>
     requires { IdsInside entries.now added.now }
     ensures { result ≡ entry_answer (last_from (entry_has_id added.now id.now) 0
         (entries_in entries.now)) }
 {
-    let mut i = entries.len() / Entry::WIDTH;
-    while i > 0 {
-        i -= 1;
+    for i in (0..entries.len() / Entry::WIDTH).rev() {
         if has_id(entries, i, added, id) {
-            return FoundEntry::At(i);
+            return Some(i);
         }
     }
-    FoundEntry::Unknown
+    None
 }
 
 // Whether the entry at a place has this id, byte by byte.
@@ -51,15 +42,5 @@ pub fn has_id(entries: &[u32], i: usize, added: &[u8], id: &[u8]) -> bool
 pub fn same(a: &[u8], b: &[u8]) -> bool
     ensures { result ≡ same a.now b.now }
 {
-    if a.len() != b.len() {
-        return false;
-    }
-    let mut i: usize = 0;
-    while i < a.len() {
-        if a[i] != b[i] {
-            return false;
-        }
-        i += 1;
-    }
-    true
+    a == b
 }

@@ -1,6 +1,5 @@
 -- `find` meets its contract. The loop's invariant, `Searching`: no entry passed has the id. Assumes nothing.
 use mathlib.Core.Path.{ap, sym, ◌∙◌}
-use native.Mathlib.Omega.{arith}
 use Rattle.template_find.specs.Promises.{entry_answer}
 use Rattle.template_entries.proofs.Entries.{entries_number}
 use Rattle.template_find.proofs.Finding.{search_start, search_on, search_found, search_end}
@@ -8,9 +7,6 @@ use Rattle.template_find.proofs.find.Goals as goal
 
 pub loop-i-init : goal.loop-i-init
 loop-i-init c = search_start _ _ _ (sym (entries_number _))
-
-pub has_id-requires : goal.has_id-requires
-has_id-requires c = record { ids = c.requires; among = omega (arith, c.loop-i.invariant.inside, entries_number c.args.entries.now) }
 
 pub returns-then-has_id : goal.returns-then-has_id
 unfolding entry_answer

@@ -6,6 +6,3 @@ use Rattle.template_find.proofs.find.Given as goal
 
 abbrev pub invariant-loop-i : goal.invariant-loop-i
 invariant-loop-i l = Searching (entry_has_id l.added l.id) (entries_in l.entries) no_entry l.i
-
-abbrev pub decreases-loop-i : goal.decreases-loop-i
-decreases-loop-i l = l.i
