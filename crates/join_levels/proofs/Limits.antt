@@ -11,11 +11,11 @@ use lib.Dec.{leb}
 use lib.ListN.{length, replicate}
 use borrow.Author.Tests.{leb-true, leb-false}
 use Rattle.record.specs.Tree.{Row, Encoding, forest}
-use Rattle.record.specs.WellFormed.{Fits, levels, most_nodes, most_rows, most_levels}
+use Rattle.record.specs.WellFormed.{levels, most_nodes, most_rows, most_levels}
 use Rattle.join_trees.specs.Join.{join}
 use Rattle.join_trees.proofs.Sizes.{total, total_nodes, total_rows, levels_join}
 use Rattle.join_levels.specs.declared.Profile.{Profile}
-use Rattle.join_levels.specs.declared.Answer.{Answer}
+use Rattle.std.specs.Prelude.{None, Some}
 use Rattle.join_table.specs.Table.{level_count, at, sum_below, joined_level}
 use Rattle.join_levels.specs.Levels.{counted_once, weight_at, nodes_at, rows_at, ProfileOf, Profiled, Measures}
 use Rattle.join_table.specs.Promises.{Has, Small4}
@@ -51,12 +51,6 @@ small_rows {s} {p} hs hp = record { fst = few_rows_at hs; snd = few_nodes_at hp;
 
 -- ---- What the answer says
 
-pub refuses : {E : Encoding} {r : Answer} → r.fits ≡ false → (Fits (forest (E ∷ [])) → ⊥) → Measures E r
-refuses e n = record { fitting = λ h. absurd (let z : ◌≡◌ {A = ℕ} 0 1 = cc in omega arith); too_large = λ h. n }
-
-pub answers : {E : Encoding} {p : Profile} → ProfileOf E p → Fits (forest (E ∷ [])) → Measures E (record { fits = true; profile = p })
-answers o f = record { fitting = λ h. (o, f); too_large = λ e. absurd (let z : ◌≡◌ {A = ℕ} 0 1 = cc in omega arith) }
-
 module _ (g : Bool) (S P : Encoding) (s p : Profile) (os : ProfileOf S s) (op : ProfileOf P p) where
   nodes_of : (d : ℕ) → joined_level d (at s.nodes) (at p.nodes) ≡ nodes_at d (join g S P)
   nodes_of d = ap₂ (joined_level d) (fun_ext os.nodes) (fun_ext op.nodes) ∙ sym (nodes_join g d S P)
@@ -69,8 +63,8 @@ module _ (g : Bool) (S P : Encoding) (s p : Profile) (os : ProfileOf S s) (op : 
   deep_of : s.levels + p.levels ≡ levels (join g S P).below
   deep_of = ap₂ ◌+◌ os.deep op.deep ∙ sym (levels_join g S P)
 
-  pub too_deep : {r : Answer} → most_levels < s.levels + p.levels → r.fits ≡ false → Measures (join g S P) r
-  too_deep l e = refuses e (λ f. omega (arith, deep_of, f.few_levels))
+  pub too_deep : most_levels < s.levels + p.levels → Measures (join g S P) None
+  too_deep l = λ f. omega (arith, deep_of, f.few_levels)
 
   -- what a list of sums over the levels says of the join
   module _ (c : List Row → ℕ) (l : List ℕ) (f : ℕ → ℕ) (has : Has l (s.levels + p.levels) f) (is : (d : ℕ) → f d ≡ weight_at c d (join g S P)) where
@@ -101,18 +95,19 @@ module _ (g : Bool) (S P : Encoding) (s p : Profile) (os : ProfileOf S s) (op : 
       (hn : Has nodes (s.levels + p.levels) (λ d. joined_level d (at (replicate level_count 0)) (at (replicate level_count 0)) + joined_level d (at s.nodes) (at p.nodes)))
       (hr : Has rows (s.levels + p.levels) (λ d. joined_level d (at s.rows) (at p.nodes) + joined_level d (at s.nodes) (at p.rows)))
       (en : b ≡ leb (sum_below (s.levels + p.levels + 1) (at nodes)) most_nodes) where
-    pub many_nodes : {r : Answer} → b ≡ false → r.fits ≡ false → Measures (join g S P) r
-    many_nodes t e = refuses e (λ f. omega (arith, many counted_once nodes _ (one_join hn) nodes_of en t, total_nodes (forest (join g S P ∷ [])), f.few_nodes))
+    pub many_nodes : b ≡ false → Measures (join g S P) None
+    many_nodes t = λ f. omega (arith, many counted_once nodes _ (one_join hn) nodes_of en t, total_nodes (forest (join g S P ∷ [])), f.few_nodes)
 
     module _ {b' : Bool} (er : b' ≡ leb (sum_below (s.levels + p.levels + 1) (at rows)) most_rows) where
-      pub many_rows : {r : Answer} → b' ≡ false → r.fits ≡ false → Measures (join g S P) r
-      many_rows t e = refuses e (λ f. omega (arith, many length rows _ hr rows_of er t, total_rows (forest (join g S P ∷ [])), f.few_rows))
+      pub many_rows : b' ≡ false → Measures (join g S P) None
+      many_rows t = λ f. omega (arith, many length rows _ hr rows_of er t, total_rows (forest (join g S P ∷ [])), f.few_rows)
 
-      pub fitting : b ≡ true → b' ≡ true → s.levels + p.levels ≤ most_levels → Measures (join g S P) (record { fits = true; profile = record { nodes = nodes; rows = rows; levels = s.levels + p.levels } })
-      fitting t t' l =
-          answers (record { deep = deep_of; nodes = every counted_once nodes _ (one_join hn) nodes_of; rows = every length rows _ hr rows_of })
-          (record {
-            few_nodes = omega (arith, few counted_once nodes _ (one_join hn) nodes_of en t, total_nodes (forest (join g S P ∷ [])));
-            few_rows = omega (arith, few length rows _ hr rows_of er t', total_rows (forest (join g S P ∷ [])));
-            few_levels = omega (arith, deep_of);
-          })
+      pub fitting : b ≡ true → b' ≡ true → s.levels + p.levels ≤ most_levels → Measures (join g S P) (Some (record { nodes = nodes; rows = rows; levels = s.levels + p.levels }))
+      fitting t t' l = (
+        record { deep = deep_of; nodes = every counted_once nodes _ (one_join hn) nodes_of; rows = every length rows _ hr rows_of },
+        record {
+          few_nodes = omega (arith, few counted_once nodes _ (one_join hn) nodes_of en t, total_nodes (forest (join g S P ∷ [])));
+          few_rows = omega (arith, few length rows _ hr rows_of er t', total_rows (forest (join g S P ∷ [])));
+          few_levels = omega (arith, deep_of);
+        },
+      )

@@ -1,10 +1,9 @@
 -- What an encoding has at each level, its profile, and whether it is within the limits.
 -- Assumes nothing: these are definitions.
-use Rattle.std.specs.Prelude.{◌≡◌, true, false, List, [], ◌∷◌, map, ℕ, zero, suc, ◌+◌, length}
+use Rattle.std.specs.Prelude.{◌≡◌, List, [], ◌∷◌, map, ℕ, zero, suc, ◌+◌, length, Option, None, Some}
 use Rattle.record.specs.Tree.{Row, Encoding, forest, windows}
 use Rattle.record.specs.WellFormed.{Fits, levels}
 use Rattle.join_levels.specs.declared.Profile.{Profile}
-use Rattle.join_levels.specs.declared.Answer.{Answer}
 use Rattle.join_table.specs.Table.{at}
 
 -- ---- The sum of a count over the encodings of one level
@@ -42,7 +41,11 @@ pub record Profiled (p : Profile) : Type 0 where
   pub is : ProfileOf E p
   pub fits : Fits (forest (E ∷ []))
 
+-- what is told of an encoding: its profile, or none if it is too large
+abbrev pub Measured : Type 0
+Measured = Option Profile
+
 -- the answer says whether E is within the limits, and then E's profile
-pub record Measures (E : Encoding) (r : Answer) : Type 0 where
-  pub fitting : r.fits ≡ true → ProfileOf E r.profile × Fits (forest (E ∷ []))
-  pub too_large : r.fits ≡ false → Fits (forest (E ∷ [])) → ⊥
+abbrev pub Measures : Encoding → Measured → Type 0
+Measures E None = Fits (forest (E ∷ [])) → ⊥
+Measures E (Some p) = ProfileOf E p × Fits (forest (E ∷ []))

@@ -2,7 +2,7 @@
 // and the rows at each level.
 #![tactic(auto)]
 
-ghost use Rattle.std.specs.Prelude.{◌≡◌, false, ◌≤◌, leb};
+ghost use Rattle.std.specs.Prelude.{◌≡◌, ◌≤◌, leb};
 ghost use Rattle.join_table.specs.Table.{level_count, at, sum_below};
 ghost use Rattle.join_levels.specs.Levels.{Profiled};
 ghost use Rattle.join_levels.specs.Promises.{SizesJoin};
@@ -18,21 +18,14 @@ pub struct Profile {
     pub levels: usize,
 }
 
-// Whether an encoding is within the limits, and then its profile.
-#[derive(Clone, Copy)]
-pub struct Answer {
-    pub fits: bool,
-    pub profile: Profile,
-}
-
-// The profile of a join, from those of the two; or that the join is too large.
-pub fn joined_profile(s: Profile, p: Profile) -> Answer
+// The profile of a join, from those of the two; none if the join is too large.
+pub fn joined_profile(s: Profile, p: Profile) -> Option<Profile>
     requires { Profiled s × Profiled p }
     ensures { SizesJoin s p result }
 {
     let m = s.levels + p.levels;
     if Encoding::MOST_LEVELS < m {
-        return too_large();
+        return None;
     }
     let a = s.nodes;
     let b = p.nodes;
@@ -42,36 +35,16 @@ pub fn joined_profile(s: Profile, p: Profile) -> Answer
     let nodes = join_table::levels_of(none, none, a, b, m);
     let rows = join_table::levels_of(c, b, a, e, m);
     if !within(nodes, m + 1, Encoding::MOST_NODES) {
-        return too_large();
+        return None;
     }
     if !within(rows, m + 1, Encoding::MOST_ROWS) {
-        return too_large();
+        return None;
     }
-    let profile = Profile {
+    Some(Profile {
         nodes,
         rows,
         levels: m,
-    };
-    Answer {
-        fits: true,
-        profile,
-    }
-}
-
-// The answer that an encoding is not within the limits.
-pub fn too_large() -> Answer
-    ensures { result.fits ≡ false }
-{
-    let none = [0usize; LEVELS];
-    let profile = Profile {
-        nodes: none,
-        rows: none,
-        levels: 0,
-    };
-    Answer {
-        fits: false,
-        profile,
-    }
+    })
 }
 
 // Whether the first n add up to no more than the limit.
@@ -80,14 +53,12 @@ fn within(a: [usize; LEVELS], n: usize, limit: usize) -> bool
     ensures { result ≡ leb (sum_below n (at a)) limit }
 {
     let mut left = limit;
-    let mut i = 0;
-    while i < n {
+    for i in 0..n {
         let x = a[i];
         if left < x {
             return false;
         }
         left -= x;
-        i += 1;
     }
     true
 }

@@ -284,3 +284,38 @@ left_end {nodes} {E} {pending} {counted} {rows} {deep} {depth} {i} l z = go l.st
     go : (stack : List Forest) → length stack ≡ depth → Open nodes E pending counted rows deep i stack → (deep ≡ suc (levels E.below)) × ProfileOf E (record { nodes = counted; rows = rows; levels = deep - 1 })
     go [] n o = (omega (arith, o.deep_is), record { deep = omega (arith, o.deep_is); nodes = λ d. omega (arith, o.nodes_are d); rows = λ d. omega (arith, o.rows_are d) })
     go (f ∷ fs) n o = absurd (omega arith)
+
+-- ---- A turn
+
+-- What is known of numbers alone at the start of a turn: no more levels are open than there is room for; where encodings are
+-- left at the innermost one, a node is due; and where none is open, a level was reached.
+pub record Turn (nodes pending counted rows : List ℕ) (deep depth i : ℕ) : Type 0 where
+  pub shallow : depth ≤ suc level_count
+  pub low : 0 < depth → 0 < get_or pending (depth - 1) 0 → depth ≤ level_count
+  pub room : 0 < depth → 0 < get_or pending (depth - 1) 0 → i + node_width ≤ length nodes
+  pub few_nodes : 0 < depth → 0 < get_or pending (depth - 1) 0 → at counted (depth - 1) ≤ most_nodes
+  pub few_rows : 0 < depth → 0 < get_or pending (depth - 1) 0 → at rows (depth - 1) ≤ most_rows
+  pub reached : depth ≤ 0 → 0 < deep
+
+pub record Kept (nodes : List ℕ) (start : ℕ) (pending counted rows : List ℕ) (deep depth i : ℕ) : Type 0 where
+  pub turn : Turn nodes pending counted rows deep depth i
+  pub left : (E : Encoding) → EncodingAt nodes start E → Left nodes E pending counted rows deep depth i
+
+pub kept : {nodes : List ℕ} {start : ℕ} {E : Encoding} {pending counted rows : List ℕ} {deep depth i : ℕ} → EncodingAt nodes start E → ((E : Encoding) → EncodingAt nodes start E → Left nodes E pending counted rows deep depth i) → Kept nodes start pending counted rows deep depth i
+kept {nodes} {start} {E} {pending} {counted} {rows} {deep} {depth} {i} s left = record { turn = turn; left = left }
+  where
+    l : Left nodes E pending counted rows deep depth i
+    l = left E s
+
+    next : 0 < depth → 0 < get_or pending (depth - 1) 0 → Due nodes E pending counted rows deep i (depth - 1)
+    next o p = due (depth - 1) l (omega arith) p
+
+    turn : Turn nodes pending counted rows deep depth i
+    turn = record {
+      shallow = left_depth l;
+      low = λ o p. omega (arith, (next o p).level_low);
+      room = λ o p. (next o p).room;
+      few_nodes = λ o p. due_few_nodes s (next o p) (depth - 1);
+      few_rows = λ o p. due_few_rows s (next o p) (depth - 1);
+      reached = λ z. omega (arith, (left_end l z).0);
+    }

@@ -56,8 +56,7 @@ pub fn nodes_in(p: Profile) -> usize
     requires { Profiled p }
     ensures { CountsNodes p result }
 {
-    let nodes = p.nodes;
-    sum(nodes)
+    sum(p.nodes)
 }
 
 // The rows of all levels.
@@ -65,8 +64,7 @@ pub fn rows_in(p: Profile) -> usize
     requires { Profiled p }
     ensures { CountsRows p result }
 {
-    let rows = p.rows;
-    sum(rows)
+    sum(p.rows)
 }
 
 // All of them added up.
@@ -75,10 +73,8 @@ fn sum(a: [usize; LEVELS]) -> usize
     ensures { result ≡ sum_below level_count (at a) }
 {
     let mut all = 0;
-    let mut i = 0;
-    while i < LEVELS {
+    for i in 0..LEVELS {
         all += a[i];
-        i += 1;
     }
     all
 }

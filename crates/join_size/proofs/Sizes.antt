@@ -17,12 +17,12 @@ use Rattle.record.proofs.Flat.{length_nodes}
 use Rattle.record.proofs.Standing.{at_size, at_count}
 use Rattle.join_trees.specs.Join.{join}
 use Rattle.join_levels.specs.declared.Profile.{Profile}
-use Rattle.join_levels.specs.declared.Answer.{Answer}
-use Rattle.join_levels.specs.Levels.{Profiled, Measures}
+use Rattle.std.specs.Prelude.{None, Some}
+use Rattle.join_levels.specs.Levels.{Profiled, Measured, Measures}
 use Rattle.join_levels_stored.specs.Promises.{ProfilesAt, CountsNodes, CountsRows, EncodingAt}
 use Rattle.record_room.specs.declared.Size.{Size}
 use Rattle.record_room.specs.Room.{has_room}
-use Rattle.join_size.specs.Promises.{Takes, Sizes}
+use Rattle.join_size.specs.Promises.{Takes, Sizes, AskSize}
 use Rattle.record_room.proofs.Room.{tells_room}
 use Rattle.join_trees.proofs.Windowless.{join_plain_nodes, join_plain_rows, join_plain_levels}
 
@@ -49,17 +49,16 @@ module _ {E : Encoding} {s : Size} (sized : Sizes E s) (nodes rows : List ℕ) w
 
 -- ---- What was measured
 
-module _ {E : Encoding} {answer : Answer} (measured : Measures E answer) where
-  pub measured_profiled : answer.fits ≡ true → Profiled answer.profile
-  measured_profiled e = let (o, f) = measured.fitting e in record { E = E; is = o; fits = f }
+pub measured_profiled : (E : Encoding) (r : Measured) → Measures E r → AskSize r
+measured_profiled E None large = tt
+measured_profiled E (Some p) (o, f) = record { E = E; is = o; fits = f }
 
-  pub sizes_measured : {n m : ℕ} → answer.fits ≡ true → CountsNodes answer.profile n → CountsRows answer.profile m → Sizes E (record { fits = true; nodes = n; rows = m })
-  sizes_measured e counts counts_rows =
-      let (o, f) = measured.fitting e in
-      record { fitting = λ _. record { nodes = counts E o; rows = counts_rows E o; limits = f }; too_large = λ z. absurd (let y : ◌≡◌ {A = ℕ} 0 1 = cc in omega arith) }
+pub sizes_measured : (E : Encoding) {p : Profile} {n m : ℕ} → Measures E (Some p) → CountsNodes p n → CountsRows p m → Sizes E (record { fits = true; nodes = n; rows = m })
+sizes_measured E (o, f) counts counts_rows =
+    record { fitting = λ _. record { nodes = counts E o; rows = counts_rows E o; limits = f }; too_large = λ z. absurd (let y : ◌≡◌ {A = ℕ} 0 1 = cc in omega arith) }
 
-  pub sizes_too_large : {n m : ℕ} → answer.fits ≡ false → Sizes E (record { fits = false; nodes = n; rows = m })
-  sizes_too_large e = record { fitting = λ z. absurd (let y : ◌≡◌ {A = ℕ} 0 1 = cc in omega arith); too_large = λ _. measured.too_large e }
+pub sizes_too_large : (E : Encoding) {n m : ℕ} → Measures E None → Sizes E (record { fits = false; nodes = n; rows = m })
+sizes_too_large E large = record { fitting = λ z. absurd (let y : ◌≡◌ {A = ℕ} 0 1 = cc in omega arith); too_large = λ _. large }
 
 -- ---- Two encodings without windows
 

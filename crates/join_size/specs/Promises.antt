@@ -1,10 +1,9 @@
 -- What the functions ask and give that tell how much a join takes.
 -- Assumes nothing: these are definitions.
-use Rattle.std.specs.Prelude.{◌≡◌, Bool, true, false, List, [], ◌∷◌, ℕ}
+use Rattle.std.specs.Prelude.{◌≡◌, Bool, true, false, List, [], ◌∷◌, ℕ, None, Some}
 use Rattle.record.specs.Tree.{Encoding, forest}
 use Rattle.join_trees.specs.Join.{join}
-use Rattle.join_levels.specs.declared.Answer.{Answer}
-use Rattle.join_levels.specs.Levels.{Profiled, Measures}
+use Rattle.join_levels.specs.Levels.{Profiled, Measured, Measures}
 use Rattle.join_levels_stored.specs.Promises.{EncodingAt}
 use Rattle.record_room.specs.declared.Size.{Size}
 use Rattle.record.specs.WellFormed.{Fits, nodes_in, rows_in}
@@ -22,12 +21,13 @@ pub record Sizes (E : Encoding) (s : Size) : Type 0 where
 
 -- ---- From what was measured
 
--- where it says so, it is the profile of an encoding within the limits
-abbrev pub AskSize : Answer → Type 0
-AskSize answer = answer.fits ≡ true → Profiled answer.profile
+-- where there is one, it is the profile of an encoding within the limits
+abbrev pub AskSize : Measured → Type 0
+AskSize None = Unit {0}
+AskSize (Some p) = Profiled p
 
 -- the size of whatever encoding was measured
-abbrev pub SizesFor : Answer → Size → Type 0
+abbrev pub SizesFor : Measured → Size → Type 0
 SizesFor answer s = (E : Encoding) → Measures E answer → Sizes E s
 
 -- ---- A join

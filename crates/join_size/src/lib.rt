@@ -4,27 +4,26 @@
 ghost use Rattle.join_size.specs.Promises.{AskSize, SizesFor, AskJoinSize, SizesJoinFor};
 ghost use Rattle.record.specs.Working.{Zeroed};
 
-use join_levels::Answer;
+use join_levels::Profile;
 use record::Encoding;
 use record_room::Size;
 
 // What the encoding takes that was measured.
-pub fn size_of(answer: Answer) -> Size
-    requires { AskSize answer }
-    ensures { SizesFor answer result }
+pub fn size_of(profile: Option<Profile>) -> Size
+    requires { AskSize profile }
+    ensures { SizesFor profile result }
 {
-    if !answer.fits {
-        return Size {
+    match profile {
+        None => Size {
             fits: false,
             nodes: 0,
             rows: 0,
-        };
-    }
-    let p = answer.profile;
-    Size {
-        fits: true,
-        nodes: join_levels_stored::nodes_in(p),
-        rows: join_levels_stored::rows_in(p),
+        },
+        Some(p) => Size {
+            fits: true,
+            nodes: join_levels_stored::nodes_in(p),
+            rows: join_levels_stored::rows_in(p),
+        },
     }
 }
 
@@ -46,8 +45,7 @@ pub fn join_size(first_nodes: &[u32], second_nodes: &[u32]) -> Size
     }
     let s = join_levels_stored::profile_at(first_nodes, 0);
     let p = join_levels_stored::profile_at(second_nodes, 0);
-    let answer = join_levels::joined_profile(s, p);
-    size_of(answer)
+    size_of(join_levels::joined_profile(s, p))
 }
 
 // An output, or a working store, all zeros.

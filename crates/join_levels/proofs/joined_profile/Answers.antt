@@ -7,7 +7,7 @@ pub overflow_add-m : goal.overflow_add-m
 overflow_add-m c = omega (arith, few_levels_of c.requires.0, few_levels_of c.requires.1)
 
 pub returns-then-m-gt-MOST_LEVELS : goal.returns-then-m-gt-MOST_LEVELS
-returns-then-m-gt-MOST_LEVELS c = λ g S P os op. too_deep g S P _ _ os op c.if-m-gt-MOST_LEVELS.true c.too_large.ensures
+returns-then-m-gt-MOST_LEVELS c = λ g S P os op. too_deep g S P _ _ os op c.if-m-gt-MOST_LEVELS.true
 
 pub levels_of-nodes-requires : goal.levels_of-nodes-requires
 levels_of-nodes-requires c = (c.if-m-gt-MOST_LEVELS.false, small_nodes c.requires.0 c.requires.1)
@@ -17,11 +17,11 @@ levels_of-rows-requires c = (c.if-m-gt-MOST_LEVELS.false, small_rows c.requires.
 
 pub returns-then-not-within : goal.returns-then-not-within
 returns-then-not-within c = λ g S P os op.
-    many_nodes g S P _ _ os op c.levels_of-nodes.ensures c.levels_of-rows.ensures c.within.ensures c.if-not-within.true c.too_large-then-not-within.ensures
+    many_nodes g S P _ _ os op c.levels_of-nodes.ensures c.levels_of-rows.ensures c.within.ensures c.if-not-within.true
 
 pub returns-then-not-within-2 : goal.returns-then-not-within-2
 returns-then-not-within-2 c = λ g S P os op.
-    many_rows g S P _ _ os op c.levels_of-nodes.ensures c.levels_of-rows.ensures c.within.ensures c.within-2.ensures c.if-not-within-2.true c.too_large-then-not-within-2.ensures
+    many_rows g S P _ _ os op c.levels_of-nodes.ensures c.levels_of-rows.ensures c.within.ensures c.within-2.ensures c.if-not-within-2.true
 
 pub returns : goal.returns
 returns c = λ g S P os op.

@@ -1,12 +1,9 @@
 -- `within` meets its contract.
 -- Assumes nothing.
 use mathlib.Core.Path.{◌≡◌}
-use Prim.Native.Nat.{◌+◌, ◌-◌, ◌≤◌}
+use Prim.Native.Nat.{◌+◌}
 use Rattle.join_table.specs.Table.{at, sum_below}
 use Rattle.join_levels.proofs.within.Given as goal
 
 abbrev pub invariant-loop-i : goal.invariant-loop-i
-invariant-loop-i l = (l.i ≤ l.n) × (l.left + sum_below l.i (at l.a) ≡ l.limit)
-
-abbrev pub decreases-loop-i : goal.decreases-loop-i
-decreases-loop-i l = l.n - l.i
+invariant-loop-i l = l.left + sum_below l.i (at l.a) ≡ l.limit
