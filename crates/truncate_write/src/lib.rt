@@ -72,10 +72,10 @@ pub fn write_truncated(
         out_nodes.old a out_rows.old b out_nodes.new out_rows.new }
 {
     let n = nodes[i];
-    let decision = cut_plan::decide(n, max, stride);
-    match decision {
+    match cut_plan::decide(n, max, stride) {
         Decision::Whole => copy_encoding(nodes, i, rows, j, own, out_nodes, a, out_rows, b),
         Decision::Emptied => write_emptied(nodes, i, rows, j, own, out_nodes, a, out_rows, b),
+        // Who asks has refused it before.
         Decision::StrideRefused => {}
         Decision::Windows(count) => {
             cut_windows::write_cut(

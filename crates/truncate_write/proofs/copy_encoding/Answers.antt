@@ -6,16 +6,10 @@ use Rattle.record.proofs.Here.{here_nodes_fit, here_rows_fit}
 use Rattle.truncate_write.proofs.Placing.{copy_put}
 use Rattle.truncate_write.proofs.copy_encoding.Goals as goal
 
-pub overflow_mul-own : goal.overflow_mul-own
-overflow_mul-own c = omega (arith, c.requires.nodes_fit)
-
 pub copy-requires : goal.copy-requires
 copy-requires c =
     let q = c.requires in
     (omega (arith, here_nodes_fit q.here, ap (λ (s : Extent). s.nodes) q.measured), q.nodes_fit)
-
-pub overflow_mul-own-2 : goal.overflow_mul-own-2
-overflow_mul-own-2 c = omega (arith, c.requires.rows_fit)
 
 pub copy-requires-2 : goal.copy-requires-2
 copy-requires-2 c =
