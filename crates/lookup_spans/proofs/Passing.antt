@@ -1,7 +1,8 @@
 -- The span of the rows passed: none at the start, one row more.
 -- Assumes nothing.
 use mathlib.Core.Path.{◌≡◌, sym, ap, ◌∙◌}
-use mathlib.Core.Bool.{Bool, true, false, cond, false≢true}
+use mathlib.Core.Bool.{Bool, cond}
+use Rattle.std.specs.Prelude.{Option as Answer, Some, None}
 use mathlib.Core.Option.{Option, none as nothing, some}
 use Prim.Native.Nat.{ℕ, ◌+◌, ◌*◌, min, max}
 use native.Mathlib.Numerals.{add-one}
@@ -54,25 +55,25 @@ module _ (rows : List ℕ) (first i : ℕ) where
 
 -- ---- One step
 
-module _ {seen : Seen} (mask start end : ℕ) (s : Option Span) (e : seen ≡ seen_of s) where
+module _ (mask start end : ℕ) (s : Option Span) where
   abbrev own : Option Span
   own = some (span_from start end)
 
   -- a row that does not count
-  pub step_special : (mask ≡ 0 → ⊥) → seen ≡ seen_of (joint s (row_span mask start end))
-  step_special n = e ∙ ap seen_of (sym (ap (λ (b : Bool). joint s (cond b own nothing)) (ne_eqb mask 0 n) ∙ joint_none s))
+  pub step_special : {seen : Answer Seen} → seen ≡ seen_of s → (mask ≡ 0 → ⊥) → seen ≡ seen_of (joint s (row_span mask start end))
+  step_special e n = e ∙ ap seen_of (sym (ap (λ (b : Bool). joint s (cond b own nothing)) (ne_eqb mask 0 n) ∙ joint_none s))
 
   counts : mask ≡ 0 → joint s own ≡ joint s (row_span mask start end)
   counts z = ap (λ (b : Bool). joint s (cond b own nothing)) (sym (eq-eqb mask 0 z))
 
 -- the first that counts
-pub step_first : {seen : Seen} (mask start end : ℕ) (s : Option Span) → seen ≡ seen_of s → mask ≡ 0 → seen.found ≡ false → record { found = true; start = start; end = end } ≡ seen_of (joint s (row_span mask start end))
-step_first mask start end nothing e z f = ap seen_of (counts mask start end nothing e z)
-step_first mask start end (some s) e z f = absurd (false≢true (sym f ∙ ap (λ (x : Seen). x.found) e))
+pub step_first : (mask start end : ℕ) (s : Option Span) → None ≡ seen_of s → mask ≡ 0 → Some (record { start = start; end = end }) ≡ seen_of (joint s (row_span mask start end))
+step_first mask start end nothing e z = ap seen_of (counts mask start end nothing z)
+step_first mask start end (some s) e z = absurd (let z : ◌≡◌ {A = ℕ} 0 1 = cc in omega arith)
 
 -- a further one
-pub step_further : {seen : Seen} (mask start end : ℕ) (s : Option Span) → seen ≡ seen_of s → mask ≡ 0 → seen.found ≡ true
-    → record { found = true; start = min seen.start start; end = max seen.end end } ≡ seen_of (joint s (row_span mask start end))
-step_further mask start end nothing e z f = absurd (false≢true (sym (ap (λ (x : Seen). x.found) e) ∙ f))
-step_further mask start end (some s) e z f =
-    ap (λ (x : Seen). record { found = true; start = min x.start start; end = max x.end end }) e ∙ ap seen_of (counts mask start end (some s) e z)
+pub step_further : (before : Seen) (mask start end : ℕ) (s : Option Span) → Some before ≡ seen_of s → mask ≡ 0 → Some (record { start = min before.start start; end = max before.end end }) ≡ seen_of (joint s (row_span mask start end))
+step_further before mask start end nothing e z = absurd (let z : ◌≡◌ {A = ℕ} 0 1 = cc in omega arith)
+step_further before mask start end (some s) e z =
+    let same : before ≡ record { start = s.start; end = s.end } = cc in
+    ap (λ (x : Seen). Some (record { start = min x.start start; end = max x.end end })) same ∙ ap seen_of (counts mask start end (some s) z)

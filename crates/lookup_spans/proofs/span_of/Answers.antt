@@ -1,6 +1,6 @@
 -- `span_of` passes the rows: after i turns it holds the span of the first i of them. Assumes nothing.
 use mathlib.Core.Path.{◌≡◌, ap, ◌∙◌}
-use Prim.Native.Nat.{ℕ, ◌-◌}
+use Prim.Native.Nat.{ℕ}
 use native.Mathlib.Omega.{arith}
 use Rattle.lookup_spans.specs.Spans.{span_of}
 use Rattle.lookup_spans.specs.Seen.{seen_of}
@@ -8,13 +8,13 @@ use Rattle.lookup_spans.proofs.Passing.{rows_from, passed_none, passed_more}
 use Rattle.lookup_spans.proofs.span_of.Goals as goal
 
 pub loop-i-init : goal.loop-i-init
-loop-i-init c = let v = c.args in (omega arith, passed_none v.rows.now v.first)
+loop-i-init c = let v = c.args in passed_none v.rows.now v.first
 
 pub loop-i-preserved : goal.loop-i-preserved
 loop-i-preserved c =
     let rows = c.args.rows.now in
     let first = c.args.first in
-    (omega arith, c.widened-seen.ensures (span_of (rows_from rows first c.loop-i.i)) c.loop-i.invariant.1 ∙ ap seen_of (passed_more rows first c.loop-i.i))
+    c.widened-seen.ensures (span_of (rows_from rows first c.loop-i.i)) c.loop-i.invariant ∙ ap seen_of (passed_more rows first c.loop-i.i)
 
 pub returns : goal.returns
-returns c = let e : c.loop-i.i ≡ c.args.count = omega arith in c.loop-i.invariant.1 ∙ ap (λ (n : ℕ). seen_of (span_of (rows_from c.args.rows.now c.args.first n))) e
+returns c = let e : c.loop-i.i ≡ c.args.count = omega arith in c.loop-i.invariant ∙ ap (λ (n : ℕ). seen_of (span_of (rows_from c.args.rows.now c.args.first n))) e
