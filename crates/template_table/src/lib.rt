@@ -11,33 +11,27 @@ use template_entries::{Entry, Member};
 // A table has at most this many entries.
 const MOST_ENTRIES: usize = 64;
 
-#[derive(Clone, Copy)]
-pub enum TableAnswer {
-    Refused(Refusal),
-    Sound,
-}
-
 // Whether a table can be used. Refused with 15, then with 12.
-pub fn check_table(entries: &[u32], members: &[u32], added: &[u8]) -> TableAnswer
+pub fn check_table(entries: &[u32], members: &[u32], added: &[u8]) -> Result<(), Refusal>
     ensures { result ≡ table_answer (read_table entries.now members.now added.now) }
 {
     if entries.len() % Entry::WIDTH != 0 {
-        return TableAnswer::Refused(Refusal::MalformedTable);
+        return Err(Refusal::MalformedTable);
     }
     if members.len() % Member::WIDTH != 0 {
-        return TableAnswer::Refused(Refusal::MalformedTable);
+        return Err(Refusal::MalformedTable);
     }
     if entries.len() / Entry::WIDTH > MOST_ENTRIES {
-        return TableAnswer::Refused(Refusal::MalformedTable);
+        return Err(Refusal::MalformedTable);
     }
     if !template_entries::entries_fit(entries, members.len() / Member::WIDTH, added.len()) {
-        return TableAnswer::Refused(Refusal::MalformedTable);
+        return Err(Refusal::MalformedTable);
     }
     if !template_entries::members_fit(members, added.len()) {
-        return TableAnswer::Refused(Refusal::MalformedTable);
+        return Err(Refusal::MalformedTable);
     }
     if !template_entries::numbers_agree(entries) {
-        return TableAnswer::Refused(Refusal::IdsAndTextsDiffer);
+        return Err(Refusal::IdsAndTextsDiffer);
     }
-    TableAnswer::Sound
+    Ok(())
 }
