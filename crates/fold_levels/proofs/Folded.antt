@@ -2,7 +2,7 @@
 -- decides.
 -- Assumes nothing.
 use mathlib.Core.Path.{◌≡◌, refl, ap, sym, ◌∙◌, subst}
-use mathlib.Core.Bool.{Bool, true, false}
+use mathlib.Core.Bool.{Bool}
 use mathlib.Core.List.{List, [], ◌∷◌, ◌++◌, append_assoc, append-nil}
 use Prim.Native.Nat.{ℕ, zero, suc, ◌+◌, ◌*◌, ◌≤◌, ◌<◌}
 use native.Mathlib.Omega.{arith}
@@ -10,19 +10,18 @@ use lib.ListN.{length, drop, set, replicate, length-append, length-drop}
 use lib.Seq.{drop_at, drop-drop}
 use Rattle.record.specs.Tree.{Forest, none, node, Encoding, listed, forest, empty}
 use Rattle.record.specs.Flat.{node_width, flat_nodes}
-use Rattle.record.specs.WellFormed.{Fits, WellFormed, Stores, nodes_in, levels}
+use Rattle.record.specs.WellFormed.{Fits, WellFormed, Stores, nodes_in}
 use Rattle.record.proofs.Flat.{length_nodes}
 use Rattle.join_trees.specs.Join.{join, fold}
 use Rattle.join_trees.proofs.Folds.{fold_from_append, fold_last}
 use Rattle.join_trees.proofs.Sizes.{fold_no_less, no_more_fits}
 use Rattle.join_levels.specs.declared.Profile.{Profile}
-use Rattle.join_levels.specs.declared.Answer.{Answer}
+use Rattle.std.specs.Prelude.{None, Some}
 use Rattle.join_levels.specs.Levels.{weight_at, counted_once, ProfileOf, Profiled, Measures}
 use Rattle.join_table.specs.Table.{level_count, at}
 use Rattle.fold_levels.specs.Promises.{HoldsNodes}
-use Rattle.join_levels_stored.specs.Promises.{EncodingAt}
+use Rattle.join_levels_stored.specs.Promises.{EncodingAt, ProfilesAt}
 use Rattle.join_table.proofs.Passes.{zeros}
-use Rattle.join_levels.proofs.Limits.{refuses, answers}
 
 -- A batch as it is lent.
 pub stores_holds : {nodes rows : List ℕ} {f : Forest} → Stores nodes rows f → HoldsNodes nodes f
@@ -104,8 +103,12 @@ module _ {nodes : List ℕ} {f : Forest} {p : Profile} {i : ℕ} {g : Bool} (n :
   pub next_room : i + nodes_in (forest (n.E ∷ [])) * node_width ≤ length nodes
   next_room = omega (arith, length-drop i nodes, simp length-append at (ap length n.is), length_nodes (forest (n.E ∷ [])) n.stands.well.fine)
 
+  -- it has this profile
+  pub next_profiled : {q : Profile} → ProfilesAt nodes i q → Profiled q
+  next_profiled o = record { E = n.E; is = o n.E n.stands; fits = n.stands.well.fits }
+
   -- it is joined, and fits
-  pub stepped_more : {q : Profile} (k : ℕ) → k ≡ nodes_in (forest (n.E ∷ [])) → ProfileOf (join g (fold g n.stepped.folded) n.E) q × Fits (forest (join g (fold g n.stepped.folded) n.E ∷ [])) → Stepped g nodes f q (i + k * node_width)
+  pub stepped_more : {q : Profile} (k : ℕ) → k ≡ nodes_in (forest (n.E ∷ [])) → Measures (join g (fold g n.stepped.folded) n.E) (Some q) → Stepped g nodes f q (i + k * node_width)
   stepped_more {q} k e (o, h) =
       let F = forest (n.E ∷ []) in
       let len : length (flat_nodes F) ≡ k * node_width = length_nodes F n.stands.well.fine ∙ ap (λ (k : ℕ). k * node_width) (sym e) in
@@ -121,14 +124,14 @@ module _ {nodes : List ℕ} {f : Forest} {p : Profile} {i : ℕ} {g : Bool} (n :
       }
 
   -- it is joined, and is too large: then so is the fold
-  pub stepped_stop : {r : Answer} → r.fits ≡ false → (Fits (forest (join g (fold g n.stepped.folded) n.E ∷ [])) → ⊥) → Measures (fold g (listed f)) r
-  stepped_stop e large = refuses e (λ h. large (no_more_fits (fold_no_less g (join g (fold g n.stepped.folded) n.E) (listed n.others)) (subst (λ (E : Encoding). Fits (forest (E ∷ []))) (ap (fold g) n.split ∙ fold_from_append g empty n.stepped.folded (n.E ∷ listed n.others)) h)))
+  pub stepped_stop : Measures (join g (fold g n.stepped.folded) n.E) None → Measures (fold g (listed f)) None
+  stepped_stop large = λ h. large (no_more_fits (fold_no_less g (join g (fold g n.stepped.folded) n.E) (listed n.others)) (subst (λ (E : Encoding). Fits (forest (E ∷ []))) (ap (fold g) n.split ∙ fold_from_append g empty n.stepped.folded (n.E ∷ listed n.others)) h))
 
 -- Nothing is left.
-pub stepped_end : {nodes : List ℕ} {f : Forest} {p : Profile} {i : ℕ} {g : Bool} → Stepped g nodes f p i → length nodes ≤ i → Measures (fold g (listed f)) (record { fits = true; profile = p })
+pub stepped_end : {nodes : List ℕ} {f : Forest} {p : Profile} {i : ℕ} {g : Bool} → Stepped g nodes f p i → length nodes ≤ i → Measures (fold g (listed f)) (Some p)
 unfolding flat_nodes
 stepped_end {nodes} {f} {p} {i} {g} s l = go s.left s.split s.is
   where
-    go : (left : Forest) → listed f ≡ s.folded ++ listed left → drop i nodes ≡ flat_nodes left → Measures (fold g (listed f)) (record { fits = true; profile = p })
-    go none e is = rw (e ∙ append-nil s.folded) (answers s.profile s.fits)
+    go : (left : Forest) → listed f ≡ s.folded ++ listed left → drop i nodes ≡ flat_nodes left → Measures (fold g (listed f)) (Some p)
+    go none e is = rw (e ∙ append-nil s.folded) (s.profile, s.fits)
     go (node r q v x) e is = absurd (omega (arith, length-drop i nodes, ap length is))

@@ -1,11 +1,11 @@
 -- What the profile of the fold of a batch asks and gives.
 -- Assumes nothing: these are definitions.
-use Rattle.std.specs.Prelude.{◌≡◌, Bool, List, ℕ}
+use Rattle.std.specs.Prelude.{◌≡◌, Bool, List, ℕ, Option}
 use Rattle.record.specs.Tree.{Forest, listed}
 use Rattle.record.specs.Flat.{flat_nodes}
 use Rattle.record.specs.WellFormed.{WellFormed}
 use Rattle.join_trees.specs.Join.{fold}
-use Rattle.join_levels.specs.declared.Answer.{Answer}
+use Rattle.join_levels.specs.declared.Profile.{Profile}
 use Rattle.join_levels.specs.Levels.{Measures}
 
 -- The nodes are those of a well-formed batch.
@@ -18,5 +18,5 @@ pub record Held (nodes : List ℕ) : Type 0 where
   pub holds : HoldsNodes nodes f
 
 -- The fold of any encodings that these nodes store, growing or not.
-abbrev pub MeasuresFold : List ℕ → Answer → Type 0
+abbrev pub MeasuresFold : List ℕ → Option Profile → Type 0
 MeasuresFold nodes r = (growing : Bool) (f : Forest) → HoldsNodes nodes f → Measures (fold growing (listed f)) r
