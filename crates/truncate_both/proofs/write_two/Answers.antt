@@ -1,5 +1,4 @@
 -- `write_two` writes the first, and the second after it. Assumes nothing.
-use mathlib.Core.Path.{◌∙◌}
 use native.Mathlib.Omega.{arith}
 use Rattle.record.proofs.Here.{here_first}
 use Rattle.record_extent.proofs.Pair.{few_held, second_here}
@@ -15,20 +14,8 @@ overflow_mul-own c = let q = c.requires.two in omega (arith, (few_held (here_fir
 pub overflow_mul-own-2 : goal.overflow_mul-own-2
 overflow_mul-own-2 c = let q = c.requires.two in omega (arith, (few_held (here_first q.here) q.own_is).1)
 
-pub overflow_mul-kept : goal.overflow_mul-kept
-overflow_mul-kept c = omega (arith, c.requires.nodes_fit)
-
-pub overflow_mul-kept-2 : goal.overflow_mul-kept-2
-overflow_mul-kept-2 c = omega (arith, c.requires.rows_fit)
-
 pub write_truncated-requires-2 : goal.write_truncated-requires-2
 write_truncated-requires-2 c = second_asks c.requires c.write_truncated.auto.out_nodes c.write_truncated.auto.out_rows
-
-pub shape_of-out_nodes : goal.shape_of-out_nodes
-shape_of-out_nodes c = c.write_truncated-2.auto.out_nodes ∙ c.write_truncated.auto.out_nodes
-
-pub shape_of-out_rows : goal.shape_of-out_rows
-shape_of-out_rows c = c.write_truncated-2.auto.out_rows ∙ c.write_truncated.auto.out_rows
 
 pub returns : goal.returns
 returns c = λ E F t.

@@ -22,9 +22,6 @@ overflow_mul-i c = omega (arith, (few_held (first_here _ c.requires.2.stored) c.
 pub bounds-nodes-0 : goal.bounds-nodes-0
 bounds-nodes-0 c = omega (arith, here_nodes_fit (first_here _ c.requires.2.stored))
 
-pub offset_bounds-nodes-i : goal.offset_bounds-nodes-i
-offset_bounds-nodes-i c = omega (arith, (few_held (first_here _ c.requires.2.stored) c.requires.2.measured).0)
-
 pub bounds-nodes-i : goal.bounds-nodes-i
 bounds-nodes-i c = omega (arith, here_nodes_fit (other_here c.requires.2))
 
