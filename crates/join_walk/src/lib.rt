@@ -12,8 +12,7 @@ pub fn windows(nodes: &[u32], s: Spot) -> u32
     requires { s.node + node_width ≤ length nodes.now }
     ensures { result ≡ get_or nodes.now (s.node + 1) 0 }
 {
-    let at = s.node;
-    nodes[at + 1]
+    nodes[s.node + 1]
 }
 
 // The place of the first window of the encoding at s.
@@ -21,10 +20,9 @@ pub fn down(nodes: &[u32], s: Spot) -> Spot
     requires { AskDown nodes.now s }
     ensures { result ≡ first_window nodes.now s }
 {
-    let at = s.node;
     Spot {
-        node: at + Encoding::NODE_WIDTH,
-        row: s.row + nodes[at] as usize * Encoding::ROW_WIDTH,
+        node: s.node + Encoding::NODE_WIDTH,
+        row: s.row + nodes[s.node] as usize * Encoding::ROW_WIDTH,
     }
 }
 

@@ -6,7 +6,7 @@ use mathlib.Core.List.{List, [], ◌∷◌, map}
 use Prim.Native.Nat.{ℕ, ◌+◌, ◌-◌, ◌≤◌, ◌<◌}
 use native.Mathlib.Omega.{arith}
 use lib.ListN.{length, get_or}
-use Rattle.record.specs.Tree.{Forest, node, Encoding, listed, forest, tops}
+use Rattle.record.specs.Tree.{Forest, Encoding, listed, forest, tops}
 use Rattle.record.specs.WellFormed.{Fine}
 use Rattle.record.specs.Standing.{Here}
 use Rattle.join_trees.specs.Join.{join}

@@ -2,6 +2,7 @@
 use Rattle.join_ranges.proofs.Nodes.{here_node}
 use Rattle.join_node.proofs.Whole.{asks_numbers, asks_own, writes_node}
 use native.Mathlib.Omega.{arith}
+use mathlib.Core.Path.{refl}
 use Rattle.join_node.proofs.write_node.Goals as goal
 
 pub offset_bounds-s_nodes-i : goal.offset_bounds-s_nodes-i
@@ -20,20 +21,20 @@ pub write_numbers-requires : goal.write_numbers-requires
 write_numbers-requires c = asks_numbers c.requires
 
 pub write_own_rows-requires : goal.write_own_rows-requires
-write_own_rows-requires c = asks_own c.requires c.wide-count.ensures c.wide-p_count.ensures
+write_own_rows-requires c = asks_own c.requires refl refl
 
 pub overflow_add-result : goal.overflow_add-result
 overflow_add-result c = omega (arith, c.requires.nodes_fit)
 
 pub overflow_add-result-2 : goal.overflow_add-result-2
-overflow_add-result-2 c = omega (arith, (asks_own c.requires c.wide-count.ensures c.wide-p_count.ensures).fits)
+overflow_add-result-2 c = omega (arith, (asks_own c.requires refl refl).fits)
 
 pub overflow_mul-result : goal.overflow_mul-result
-overflow_mul-result c = omega (arith, (asks_own c.requires c.wide-count.ensures c.wide-p_count.ensures).fits)
+overflow_mul-result c = omega (arith, (asks_own c.requires refl refl).fits)
 
 pub overflow_add-result-3 : goal.overflow_add-result-3
-overflow_add-result-3 c = omega (arith, (asks_own c.requires c.wide-count.ensures c.wide-p_count.ensures).fits)
+overflow_add-result-3 c = omega (arith, (asks_own c.requires refl refl).fits)
 
 pub returns : goal.returns
 returns c =
-    writes_node c.wide-count.ensures c.wide-p_count.ensures c.write_numbers.ensures c.write_own_rows.ensures
+    writes_node refl refl c.write_numbers.ensures c.write_own_rows.ensures

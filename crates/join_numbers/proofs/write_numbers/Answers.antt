@@ -12,7 +12,7 @@ window_count-windows-requires c =
     let ask = c.requires in
     let s = ask.there_s in
     let p = ask.there_p in
-    (omega (arith, c.wide.ensures, node_windows s, s.few_windows), omega (arith, c.wide-2.ensures, node_windows p, p.few_windows))
+    (omega (arith, node_windows s, s.few_windows), omega (arith, node_windows p, p.few_windows))
 
 pub overflow_add-out_nodes : goal.overflow_add-out_nodes
 overflow_add-out_nodes c =
@@ -22,7 +22,7 @@ overflow_add-out_nodes c =
 pub overflow_cast-out_nodes : goal.overflow_cast-out_nodes
 overflow_cast-out_nodes c =
     let ask = c.requires in
-    let e = c.window_count-windows.ensures ∙ ap₂ window_count (c.wide.ensures ∙ node_windows ask.there_s) (c.wide-2.ensures ∙ node_windows ask.there_p) in
+    let e = c.window_count-windows.ensures ∙ ap₂ window_count (node_windows ask.there_s) (node_windows ask.there_p) in
     omega (arith, e, ask.few_windows)
 
 pub bounds-out_nodes-at-2 : goal.bounds-out_nodes-at-2
@@ -44,5 +44,4 @@ shape_of-out_nodes c =
 
 pub returns : goal.returns
 returns c =
-    let windows = c.window_count-windows.ensures ∙ ap₂ window_count c.wide.ensures c.wide-2.ensures in
-    record { numbers = λ S P s p. numbers_written c.args.out_nodes.now S P s p c.requires.fits c.window_count-windows.result windows c.copy.ensures c.lay_ranges.ensures }
+    record { numbers = λ S P s p. numbers_written c.args.out_nodes.now S P s p c.requires.fits c.window_count-windows.result c.window_count-windows.ensures c.copy.ensures c.lay_ranges.ensures }
