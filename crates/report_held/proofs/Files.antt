@@ -15,8 +15,8 @@ use Rattle.record.specs.Read.{Reading, holds, of_any}
 use Rattle.record.specs.declared.Refusal.TheVariants.{MalformedRecord, NoRoom, TotalTooLarge}
 use Rattle.report_trees.specs.Report.{empty_report, counted, summed, within_totals, totalled, add_answer, then_added}
 use Rattle.report_trees.specs.declared.Report.{Report}
-use Rattle.report_trees.specs.declared.Added.{Added}
-use Rattle.report_trees.specs.declared.Added.TheVariants.{Refused, Done}
+use Rattle.record.specs.declared.Refusal.{Refusal}
+use Rattle.std.specs.Prelude.{Result, Ok, Err}
 use Rattle.report_trees.proofs.AddUp.{added_is}
 use Rattle.report_trees.proofs.Totals.{within_before}
 use Rattle.report_trees.proofs.Orders.{summed_swap}
@@ -41,16 +41,16 @@ summed_assoc r s t = λ i.
       rest = add_assoc r.rest s.rest t.rest i;
     }
 
-totalled_within : (r : Report) → within_totals r ≡ true → totalled r ≡ Done r
+totalled_within : (r : Report) → within_totals r ≡ true → totalled r ≡ Ok r
 unfolding totalled
 totalled_within r w = rw w
 
 -- what follows a total that is too large plays no part, also if more is added before it is looked at
-totalled_then : (r s : Report) (k j : Report → Added) → (within_totals r ≡ true → k r ≡ then_added (totalled (summed r s)) j) → then_added (totalled r) k ≡ then_added (totalled (summed r s)) j
+totalled_then : (r s : Report) (k j : Report → Result Report Refusal) → (within_totals r ≡ true → k r ≡ then_added (totalled (summed r s)) j) → then_added (totalled r) k ≡ then_added (totalled (summed r s)) j
 unfolding totalled
 totalled_then r s k j h = go (within_totals r) (within_totals (summed r s)) refl refl
   where
-    go : (b c : Bool) → within_totals r ≡ b → within_totals (summed r s) ≡ c → then_added (cond b (Done r) (Refused TotalTooLarge)) k ≡ then_added (totalled (summed r s)) j
+    go : (b c : Bool) → within_totals r ≡ b → within_totals (summed r s) ≡ c → then_added (cond b (Ok r) (Err TotalTooLarge)) k ≡ then_added (totalled (summed r s)) j
     go true c p q = h p
     go false true p q = absurd (false≢true (sym p ∙ within_before r s q))
     go false false p q = rw q
@@ -62,7 +62,7 @@ pub record Adds (bytes : List ℕ) (d : Report) : Type 0 where
   pub adds : (r : Report) (more : List ℕ) → within_totals r ≡ true → report_from r (bytes ++ more) ≡ then_added (totalled (summed r d)) (λ s. report_from s more)
 
 adds_none : Adds [] empty_report
-adds_none = record { adds = λ r more w. sym (ap (λ (x : Added). then_added x (λ s. report_from s more)) (ap totalled (summed_none r) ∙ totalled_within r w)) }
+adds_none = record { adds = λ r more w. sym (ap (λ (x : Result Report Refusal). then_added x (λ s. report_from s more)) (ap totalled (summed_none r) ∙ totalled_within r w)) }
 
 -- the bytes begin with a whole batch that was not refused
 record Begins (bytes : List ℕ) (s t : Report) : Type 0 where
@@ -71,21 +71,21 @@ record Begins (bytes : List ℕ) (s t : Report) : Type 0 where
   pub whole : stored_size bytes ≤ length bytes
   pub batch : Forest
   pub is : stored_batch bytes ≡ holds batch
-  pub then : report_from (summed s (counted batch)) (drop (stored_size bytes) bytes) ≡ Done t
+  pub then : report_from (summed s (counted batch)) (drop (stored_size bytes) bytes) ≡ Ok t
 
-after_added : (x : Added) (k : Report → Added) {t : Report} → then_added x k ≡ Done t → (s : Report) × (x ≡ Done s) × (k s ≡ Done t)
-after_added (Refused why) k e = absurd (let z : ◌≡◌ {A = ℕ} 0 1 = cc in omega arith)
-after_added (Done s) k e = (s, refl, e)
+after_added : (x : Result Report Refusal) (k : Report → Result Report Refusal) {t : Report} → then_added x k ≡ Ok t → (s : Report) × (x ≡ Ok s) × (k s ≡ Ok t)
+after_added (Err why) k e = absurd (cc)
+after_added (Ok s) k e = (s, refl, e)
 
-begins_whole : (bytes : List ℕ) (s : Report) {t : Report} → 0 < length bytes → report_from s bytes ≡ Done t → Begins bytes s t
+begins_whole : (bytes : List ℕ) (s : Report) {t : Report} → 0 < length bytes → report_from s bytes ≡ Ok t → Begins bytes s t
 unfolding first_batch
 begins_whole bytes s {t} some e = go (ltb (length bytes) head_bytes) (ltb most_stored (stored_size bytes)) (ltb (length bytes) (stored_size bytes)) refl refl refl (sym (report_next s bytes some) ∙ e)
   where
     go : (a b c : Bool) → ltb (length bytes) head_bytes ≡ a → ltb most_stored (stored_size bytes) ≡ b → ltb (length bytes) (stored_size bytes) ≡ c
-        → cond a (Refused MalformedRecord) (cond b (Refused NoRoom) (cond c (Refused MalformedRecord) (then_added (add_answer (stored_batch bytes) s) (λ r. report_from r (drop (stored_size bytes) bytes))))) ≡ Done t → Begins bytes s t
-    go true b c p q r e = absurd (let z : ◌≡◌ {A = ℕ} 0 1 = cc in omega arith)
-    go false true c p q r e = absurd (let z : ◌≡◌ {A = ℕ} 0 1 = cc in omega arith)
-    go false false true p q r e = absurd (let z : ◌≡◌ {A = ℕ} 0 1 = cc in omega arith)
+        → cond a (Err MalformedRecord) (cond b (Err NoRoom) (cond c (Err MalformedRecord) (then_added (add_answer (stored_batch bytes) s) (λ r. report_from r (drop (stored_size bytes) bytes))))) ≡ Ok t → Begins bytes s t
+    go true b c p q r e = absurd (cc)
+    go false true c p q r e = absurd (cc)
+    go false false true p q r e = absurd (cc)
     go false false false p q r e =
         let after = after_added (add_answer (stored_batch bytes) s) (λ r. report_from r (drop (stored_size bytes) bytes)) e in
         let added = added_is (stored_batch bytes) s after.1 in
@@ -124,7 +124,7 @@ adds_empty : (bytes : List ℕ) → bytes ≡ [] → (d : Report) × Adds bytes 
 adds_empty bytes p = (empty_report, subst (λ (l : List ℕ). Adds l empty_report) (sym p) adds_none)
 
 -- an input that is not refused adds so much, whatever it was added to
-file_adds : (n : ℕ) (bytes : List ℕ) → length bytes ≤ n → (s : Report) {t : Report} → report_from s bytes ≡ Done t → (d : Report) × Adds bytes d
+file_adds : (n : ℕ) (bytes : List ℕ) → length bytes ≤ n → (s : Report) {t : Report} → report_from s bytes ≡ Ok t → (d : Report) × Adds bytes d
 file_adds zero bytes h s e = ⊎_elim (adds_empty bytes) (λ (some : 0 < length bytes). absurd (omega arith)) (empty_or_some bytes)
 file_adds (suc n) bytes h s e = ⊎_elim (adds_empty bytes) (λ (some : 0 < length bytes).
     let b = begins_whole bytes s some e in
@@ -134,14 +134,14 @@ file_adds (suc n) bytes h s e = ⊎_elim (adds_empty bytes) (λ (some : 0 < leng
 -- ---- Two files
 
 -- of a file that is not refused by itself
-module _ (bytes : List ℕ) {t : Report} (e : report_of bytes ≡ Done t) where
+module _ (bytes : List ℕ) {t : Report} (e : report_of bytes ≡ Ok t) where
   alone : (d : Report) × Adds bytes d
   unfolding report_of
   alone = file_adds (length bytes) bytes (omega arith) empty_report e
 
-then_added_done : (x : Added) (k : Report → Added) → ((s : Report) → k s ≡ Done s) → then_added x k ≡ x
-then_added_done (Refused why) k h = refl
-then_added_done (Done s) k h = h s
+then_added_done : (x : Result Report Refusal) (k : Report → Result Report Refusal) → ((s : Report) → k s ≡ Ok s) → then_added x k ≡ x
+then_added_done (Err why) k h = refl
+then_added_done (Ok s) k h = h s
 
 -- one after the other they add both
 both_told : (a b : List ℕ) {c d : Report} → Adds a c → Adds b d → report_of (a ++ b) ≡ totalled (summed (summed empty_report c) d)
@@ -152,7 +152,7 @@ both_told a b {c} {d} p q =
     ∙ then_added_done (totalled (summed (summed empty_report c) d)) (λ s. report_from s []) report_none
 
 -- "Two batches added in either order give the same report", and so two files of batches; also if both together are refused
-pub files_either_order : (a b : List ℕ) {s t : Report} → report_of a ≡ Done s → report_of b ≡ Done t → report_of (a ++ b) ≡ report_of (b ++ a)
+pub files_either_order : (a b : List ℕ) {s t : Report} → report_of a ≡ Ok s → report_of b ≡ Ok t → report_of (a ++ b) ≡ report_of (b ++ a)
 files_either_order a b e f =
     let p = alone a e in
     let q = alone b f in

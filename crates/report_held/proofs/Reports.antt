@@ -10,7 +10,7 @@ use borrow.Author.Tests.{lt-ltb, le-ltb}
 use Rattle.record.specs.declared.Refusal.TheVariants.{MalformedRecord, NoRoom}
 use Rattle.report_trees.specs.Report.{add_answer, then_added}
 use Rattle.report_trees.specs.declared.Report.{Report}
-use Rattle.report_trees.specs.declared.Added.TheVariants.{Refused, Done}
+use Rattle.std.specs.Prelude.{Ok, Err}
 use Rattle.report_stored.specs.Stored.{head_bytes, stored_size, stored_batch}
 use Rattle.report_stored.proofs.Stored.{size_first, batch_first}
 use Rattle.report_held.specs.Input.{most_stored, first_batch, report_up_to, report_from}
@@ -34,7 +34,7 @@ steps_enough (suc some) (suc others) r (b ∷ bytes) p q =
 
 -- ---- The batch at the front
 
-pub report_none : (r : Report) → report_from r [] ≡ Done r
+pub report_none : (r : Report) → report_from r [] ≡ Ok r
 unfolding report_from report_up_to
 report_none r = refl
 
@@ -46,13 +46,13 @@ report_next r (b ∷ bytes) h =
     ap (first_batch (b ∷ bytes) r) (λ i s. steps_enough (length bytes) (length rest) s rest (left_fewer b bytes (length bytes) (omega arith)) (omega arith) i)
 
 -- fewer bytes than the counts have
-pub report_short : (r : Report) (bytes : List ℕ) → 0 < length bytes → length bytes < head_bytes → report_from r bytes ≡ Refused MalformedRecord
+pub report_short : (r : Report) (bytes : List ℕ) → 0 < length bytes → length bytes < head_bytes → report_from r bytes ≡ Err MalformedRecord
 unfolding first_batch
 report_short r bytes some h = report_next r bytes some ∙ rw (lt-ltb (length bytes) head_bytes h)
 
 module _ (r : Report) (bytes : List ℕ) (counts : head_bytes ≤ length bytes) where
   -- counts that say too much, whatever follows
-  pub report_too_large : most_stored < stored_size bytes → (more : List ℕ) → report_from r (bytes ++ more) ≡ Refused NoRoom
+  pub report_too_large : most_stored < stored_size bytes → (more : List ℕ) → report_from r (bytes ++ more) ≡ Err NoRoom
   unfolding first_batch
   report_too_large large more =
       let both = length-append bytes more in
@@ -61,7 +61,7 @@ module _ (r : Report) (bytes : List ℕ) (counts : head_bytes ≤ length bytes) 
 
   module _ (small : stored_size bytes ≤ most_stored) where
     -- fewer bytes than the counts say
-    pub report_cut : length bytes < stored_size bytes → report_from r bytes ≡ Refused MalformedRecord
+    pub report_cut : length bytes < stored_size bytes → report_from r bytes ≡ Err MalformedRecord
     unfolding first_batch
     report_cut cut =
         report_next r bytes (omega arith)

@@ -10,8 +10,7 @@ use Rattle.record.specs.declared.Refusal.{Refusal}
 use Rattle.record.specs.declared.Refusal.TheVariants.{MalformedRecord, NoRoom}
 use Rattle.report_trees.specs.Report.{add_answer, then_added}
 use Rattle.report_trees.specs.declared.Report.{Report}
-use Rattle.report_trees.specs.declared.Added.{Added}
-use Rattle.report_trees.specs.declared.Added.TheVariants.{Refused, Done}
+use Rattle.std.specs.Prelude.{Result, Ok, Err}
 use Rattle.report_stored.specs.Stored.{head_bytes, stored_size, stored_batch, Whole}
 use Rattle.report_stored.proofs.Stored.{size_first, batch_first}
 use Rattle.report_held.specs.Input.{most_stored, report_from}
@@ -21,9 +20,9 @@ use Rattle.report_held.proofs.Reports.{report_none, report_short, report_too_lar
 
 -- ---- What is held
 
-pub resumed_is : {held : Held} {n : ℕ} {report : Added} → held.bytes ≡ n → held.report ≡ report → (batch more : List ℕ) → resumed held batch more ≡ then_added report (λ r. report_from r (take n batch ++ more))
+pub resumed_is : {held : Held} {n : ℕ} {report : Result Report Refusal} → held.bytes ≡ n → held.report ≡ report → (batch more : List ℕ) → resumed held batch more ≡ then_added report (λ r. report_from r (take n batch ++ more))
 unfolding resumed
-resumed_is p q batch more = ap₂ (λ (n : ℕ) (report : Added). then_added report (λ r. report_from r (take n batch ++ more))) p q
+resumed_is p q batch more = ap₂ (λ (n : ℕ) (report : Result Report Refusal). then_added report (λ r. report_from r (take n batch ++ more))) p q
 
 -- ---- The bytes of a batch that have come
 
@@ -57,10 +56,10 @@ module _ (batch numbers : List ℕ) (lent : LentStores batch numbers) (n : ℕ) 
   arrived_few : n ≤ stored_size batch
   arrived_few = ⊎_elim (λ (h : n ≤ head_bytes). omega arith) (λ (h : (head_bytes ≤ n) × (n ≤ stored_size batch) × (stored_size batch ≤ most_stored)). h.1) arrived
 
-  pub settled_wait : {held : Held} → held.bytes ≡ n → held.report ≡ Done report → Partial batch n → Settles batch n report held
+  pub settled_wait : {held : Held} → held.bytes ≡ n → held.report ≡ Ok report → Partial batch n → Settles batch n report held
   settled_wait p q partial = record { partial = subst (Partial batch) (sym p) partial; same = λ more. resumed_is p q batch more }
 
-  pub settled_large : {held : Held} → held.bytes ≡ 0 → held.report ≡ Refused NoRoom → head_bytes ≤ n → most_stored < stored_size batch → Settles batch n report held
+  pub settled_large : {held : Held} → held.bytes ≡ 0 → held.report ≡ Err NoRoom → head_bytes ≤ n → most_stored < stored_size batch → Settles batch n report held
   settled_large p q counts large =
       record {
         partial = inl (omega arith);
@@ -68,12 +67,12 @@ module _ (batch numbers : List ℕ) (lent : LentStores batch numbers) (n : ℕ) 
             ∙ sym (report_too_large report (take n batch) (omega (arith, front_long batch n counts arrived_inside)) (omega (arith, front_size batch n counts arrived_inside)) more);
       }
 
-  pub settled_whole : {held : Held} {added : Added} → held.bytes ≡ 0 → held.report ≡ added → added ≡ add_answer (stored_batch batch) report → head_bytes ≤ n → stored_size batch ≤ n → stored_size batch ≤ most_stored → Settles batch n report held
+  pub settled_whole : {held : Held} {added : Result Report Refusal} → held.bytes ≡ 0 → held.report ≡ added → added ≡ add_answer (stored_batch batch) report → head_bytes ≤ n → stored_size batch ≤ n → stored_size batch ≤ most_stored → Settles batch n report held
   settled_whole p q a counts whole small =
       record {
         partial = inl (omega arith);
         same = λ more. resumed_is p q batch more
-            ∙ ap (λ (x : Added). then_added x (λ r. report_from r more)) (a ∙ ap (λ b. add_answer b report) (sym (front_batch batch n counts arrived_inside whole)))
+            ∙ ap (λ (x : Result Report Refusal). then_added x (λ r. report_from r more)) (a ∙ ap (λ b. add_answer b report) (sym (front_batch batch n counts arrived_inside whole)))
             ∙ sym (report_whole report (take n batch) (omega (arith, front_long batch n counts arrived_inside)) (omega (arith, front_size batch n counts arrived_inside)) (omega (arith, front_long batch n counts arrived_inside, front_size batch n counts arrived_inside, arrived_few)) more);
       }
 
@@ -83,14 +82,14 @@ module _ (batch numbers : List ℕ) (lent : LentStores batch numbers) (n : ℕ) 
 -- ---- The end of the input
 
 module _ (held : Held) (batch : List ℕ) (partial : Partial batch held.bytes) (inside : held.bytes ≤ length batch) where
-  pub ended_refused : {why : Refusal} → held.report ≡ Refused why → held.report ≡ resumed held batch []
-  ended_refused q = q ∙ sym (resumed_is refl q batch [])
+  pub ended_refused : {why : Refusal} → held.report ≡ Err why → Err why ≡ resumed held batch []
+  ended_refused q = sym (resumed_is refl q batch [])
 
-  pub ended_whole : {report : Report} → held.report ≡ Done report → held.bytes ≡ 0 → held.report ≡ resumed held batch []
-  ended_whole {report} q e = q ∙ sym (resumed_is e q batch [] ∙ report_none report)
+  pub ended_whole : {report : Report} → held.report ≡ Ok report → held.bytes ≡ 0 → Ok report ≡ resumed held batch []
+  ended_whole {report} q e = sym (resumed_is e q batch [] ∙ report_none report)
 
   -- within a batch it is cut short
-  pub ended_cut : {report : Report} → held.report ≡ Done report → 0 < held.bytes → Refused MalformedRecord ≡ resumed held batch []
+  pub ended_cut : {report : Report} → held.report ≡ Ok report → 0 < held.bytes → Err MalformedRecord ≡ resumed held batch []
   ended_cut {report} q some =
       let n = held.bytes in
       let long : length (take n batch) ≡ n = length-take-le n batch inside in

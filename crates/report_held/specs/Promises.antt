@@ -1,17 +1,17 @@
 -- An input that comes in pieces: what is held of it at any time, and what the functions that settle that ask and give.
 -- Assumes nothing: these are definitions.
-use Rattle.std.specs.Prelude.{◌≡◌, ◌⊎◌, ℕ, ◌+◌, ◌*◌, ◌≤◌, ◌<◌, List, ◌++◌, length, take}
+use Rattle.std.specs.Prelude.{◌≡◌, ◌⊎◌, ℕ, ◌+◌, ◌*◌, ◌≤◌, ◌<◌, List, ◌++◌, length, take, Result}
 use Rattle.words.specs.Words.{word_bytes}
 use Rattle.report_trees.specs.Report.{then_added}
 use Rattle.report_trees.specs.declared.Report.{Report}
-use Rattle.report_trees.specs.declared.Added.{Added}
+use Rattle.record.specs.declared.Refusal.{Refusal}
 use Rattle.report_stored.specs.Stored.{head_bytes, stored_size}
 use Rattle.report_held.specs.Input.{most_stored, report_from}
 use Rattle.report_held.specs.declared.Held.{Held}
 
 -- what is told of an input of which this is known, once `more` has come as the rest of it: the bytes held are the beginning of a
 -- batch that has not come whole
-unfoldable pub resumed : Held → List ℕ → List ℕ → Added
+unfoldable pub resumed : Held → List ℕ → List ℕ → Result Report Refusal
 resumed held batch more = then_added held.report (λ r. report_from r (take held.bytes batch ++ more))
 
 -- the store for a batch, and for its numbers

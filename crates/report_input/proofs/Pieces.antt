@@ -10,7 +10,7 @@ use Rattle.lists.proofs.Numbers.{either}
 use Rattle.record.specs.declared.Refusal.{Refusal}
 use Rattle.listing_text.specs.Promises.{WroteText}
 use Rattle.report_trees.specs.declared.Report.{Report}
-use Rattle.report_trees.specs.declared.Added.TheVariants.{Refused, Done}
+use Rattle.std.specs.Prelude.{Ok, Err}
 use Rattle.report_stored.specs.Stored.{head_bytes, stored_size}
 use Rattle.report_held.specs.Input.{report_from}
 use Rattle.report_held.specs.Promises.{resumed, Partial, TakesNext, Arrived, Settles}
@@ -66,7 +66,7 @@ taken_long piece at r h =
 
 -- the bytes were put behind those held, and settled
 pub moved : {piece : List ℕ} {from r : Step} {batch batch' text : List ℕ} {report : Report} {n next : ℕ}
-    → from.held.bytes ≡ n → from.held.report ≡ Done report
+    → from.held.bytes ≡ n → from.held.report ≡ Ok report
     → WroteText text batch n next batch' → n + length text ≤ length batch
     → text ≡ take (r.at - from.at) (drop from.at piece)
     → from.at < r.at → r.at ≤ length piece
@@ -85,7 +85,7 @@ moved {piece} {from} {r} {batch} {batch'} {text} {report} {n} {next} p q w insid
         ∙ ap (λ (l : List ℕ). take n batch ++ l) (sym (append_assoc text (drop r.at piece) more) ∙ ap (λ (l : List ℕ). l ++ more) left)
 
 -- after a refusal what follows plays no part
-pub passed_over : {piece : List ℕ} {from r : Step} {batch : List ℕ} {why : Refusal} → from.held.report ≡ Refused why → from.at < length piece → Partial batch from.held.bytes
+pub passed_over : {piece : List ℕ} {from r : Step} {batch : List ℕ} {why : Refusal} → from.held.report ≡ Err why → from.at < length piece → Partial batch from.held.bytes
     → r.at ≡ length piece → r.held ≡ from.held → Moves piece from batch r batch
 passed_over {piece} {from} {r} {batch} {why} q h partial e f =
     record {

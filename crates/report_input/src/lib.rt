@@ -7,7 +7,6 @@ ghost use Rattle.report_held.specs.Promises.{LentStores, Partial};
 ghost use Rattle.report_input.specs.Promises.{Moves, Feeds};
 
 use report_held::Held;
-use report_trees::Added;
 
 // How far a piece has been taken.
 #[derive(Clone, Copy)]
@@ -27,6 +26,7 @@ pub fn feed(piece: &[u8], before: Held, batch: &mut [u8], numbers: &mut [u32]) -
         at: 0,
         held: before,
     };
+    // A while: how far a step goes is what the counts or the batch still want.
     while step.at < piece.len() {
         step = next(piece, step, batch, numbers);
     }
@@ -41,8 +41,7 @@ fn next(piece: &[u8], from: Step, batch: &mut [u8], numbers: &mut [u32]) -> Step
     ensures { Moves piece.now from batch.old result batch.new }
 {
     let held = from.held;
-    let so_far = held.report;
-    let Added::Done(report) = so_far else {
+    let Ok(report) = held.report else {
         return Step {
             at: piece.len(),
             held,

@@ -8,8 +8,8 @@ use lib.ListN.{length, length-append}
 use Rattle.fractions.specs.declared.Fraction.{Fraction}
 use Rattle.report_trees.specs.Report.{share_of}
 use Rattle.report_trees.specs.declared.Report.{Report}
-use Rattle.report_trees.specs.declared.Added.{Added}
-use Rattle.report_trees.specs.declared.Added.TheVariants.{Refused, Done}
+use Rattle.record.specs.declared.Refusal.{Refusal}
+use Rattle.std.specs.Prelude.{Result, Ok, Err}
 use Rattle.record.specs.Refusals.{number_of}
 use Rattle.listing_text.specs.Promises.{WroteText}
 use Rattle.listing_text.specs.Text.{bytes, long_digits, long_text}
@@ -68,8 +68,8 @@ share_few s =
     omega (arith, ap length (share_in_parts s), length-append (bytes "share ") (ended s.part 32 ++ ended s.whole 10), length-append (ended s.part 32) (ended s.whole 10), ended_few s.part 32, ended_few s.whole 10)
 
 -- the whole answer has room
-pub answer_few : (answer : Added) → length (answer_lines answer) ≤ answer_room
+pub answer_few : (answer : Result Report Refusal) → length (answer_lines answer) ≤ answer_room
 unfolding answer_lines
-answer_few (Refused why) = omega (arith, number_line_few (bytes "refused ") (number_of why) (omega arith))
-answer_few (Done r) =
+answer_few (Err why) = omega (arith, number_line_few (bytes "refused ") (number_of why) (omega arith))
+answer_few (Ok r) =
     omega (arith, ap length (report_in_parts r), length-append (node_lines r) (kind_lines r ++ share_line (share_of r)), length-append (kind_lines r) (share_line (share_of r)), node_lines_few r, kind_lines_few r, share_few (share_of r))

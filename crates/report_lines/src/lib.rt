@@ -8,7 +8,8 @@ ghost use Rattle.report_lines.specs.Lines.{number_line, share_line, report_lines
 ghost use Rattle.report_lines.specs.Parts.{answer_room, longest_total, longest_share, node_lines, kind_lines};
 
 use fractions::Fraction;
-use report_trees::{Added, Report};
+use record::Refusal;
+use report_trees::Report;
 
 const SPACE: u8 = b' ';
 
@@ -18,12 +19,12 @@ const NEWLINE: u8 = b'\n';
 pub const ROOM: usize = 256;
 
 // What is printed of a report, or of a refusal, and how many bytes it has.
-pub fn write_answer(answer: Added, out: &mut [u8; ROOM]) -> usize
+pub fn write_answer(answer: Result<Report, Refusal>, out: &mut [u8; ROOM]) -> usize
     ensures { WroteText (answer_lines answer) out.old 0 result out.new }
 {
     match answer {
-        Added::Refused(why) => write_line(b"refused ", why.number() as u64, out, 0),
-        Added::Done(report) => write_report(report, out),
+        Err(why) => write_line(b"refused ", why.number() as u64, out, 0),
+        Ok(report) => write_report(report, out),
     }
 }
 

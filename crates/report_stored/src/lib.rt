@@ -7,8 +7,8 @@ ghost use Rattle.record.specs.Read.{read};
 ghost use Rattle.report_stored.specs.Stored.{head_bytes, largest_word, node_words, row_words, stored_size, stored_batch, Whole};
 ghost use Rattle.report_trees.specs.Report.{add_answer};
 
-use record::Encoding;
-use report_trees::{Added, Report};
+use record::{Encoding, Refusal};
+use report_trees::Report;
 use words::WORD;
 
 // The bytes of the two counts.
@@ -44,7 +44,7 @@ fn row_numbers(bytes: &[u8]) -> usize
 }
 
 // The batch added to a report. Its numbers are put at the start of `numbers`, whose contents afterwards are left open.
-pub fn add_stored(bytes: &[u8], numbers: &mut [u32], report: Report) -> Added
+pub fn add_stored(bytes: &[u8], numbers: &mut [u32], report: Report) -> Result<Report, Refusal>
     requires { Whole bytes.now numbers.old }
     ensures { result ≡ add_answer (stored_batch bytes.now) report }
 {
@@ -55,7 +55,7 @@ pub fn add_stored(bytes: &[u8], numbers: &mut [u32], report: Report) -> Added
 }
 
 // The batch whose nodes are the first numbers, and whose rows are those after them, added to a report.
-fn add_numbers(numbers: &[u32], nodes: usize, all: usize, report: Report) -> Added
+fn add_numbers(numbers: &[u32], nodes: usize, all: usize, report: Report) -> Result<Report, Refusal>
     requires { (nodes ≤ all) × (all ≤ length numbers.now) }
     ensures { result ≡ add_answer
         (read (take nodes numbers.now) (take (all - nodes) (drop nodes numbers.now)))

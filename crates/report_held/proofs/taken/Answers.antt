@@ -11,5 +11,5 @@ pub returns : goal.returns
 returns c =
     let p = partial_whole c.args.batch.now c.args.held c.requires.1 c.if-held-lt-HEAD.false in
     let e = c.stored_size.ensures in
-    let m = c.smaller-2.ensures in
+    let m = c.min-2.ensures in
     record { some = omega (arith, e, m, p); there = omega (arith, m); counts = λ h. absurd (omega (arith, c.if-held-lt-HEAD.false)); whole = λ h. omega (arith, e, m, p); fits = omega (arith, e, m, p) }

@@ -24,4 +24,4 @@ returns c =
     let r = c.taken.result in
     let long : length (take (at + r - at) (drop at c.args.piece.now)) ≡ r = taken_long c.args.piece.now at r (omega (arith, c.taken.ensures.there)) in
     let fits : c.args.from.held.bytes + length (take (at + r - at) (drop at c.args.piece.now)) ≤ length c.args.batch.now = omega (arith, long, c.taken.ensures.fits) in
-    moved refl c.in-Done.is c.write_text-bytes.ensures fits refl (omega (arith, c.taken.ensures.some)) (omega (arith, c.taken.ensures.there)) c.settle.ensures
+    moved refl c.in-Ok.is c.write_text-bytes.ensures fits refl (omega (arith, c.taken.ensures.some)) (omega (arith, c.taken.ensures.there)) c.settle.ensures

@@ -5,12 +5,12 @@ use Rattle.listing_text.proofs.Wrote.{wrote_as}
 use Rattle.report_lines.specs.Lines.{number_line, answer_lines}
 use Rattle.report_lines.proofs.write_answer.Goals as goal
 
-pub returns-in-Refused : goal.returns-in-Refused
+pub returns-in-Err : goal.returns-in-Err
 unfolding answer_lines
-returns-in-Refused c =
-    let e = c.in-Refused.is in
+returns-in-Err c =
+    let e = c.in-Err.is in
     wrote_as (ap (number_line (bytes "refused ")) c.number.ensures ∙ ap answer_lines (sym e)) c.write_line.ensures
 
-pub returns-in-Done : goal.returns-in-Done
+pub returns-in-Ok : goal.returns-in-Ok
 unfolding answer_lines
-returns-in-Done c = wrote_as (ap answer_lines (sym c.in-Done.is)) c.write_report.ensures
+returns-in-Ok c = wrote_as (ap answer_lines (sym c.in-Ok.is)) c.write_report.ensures
