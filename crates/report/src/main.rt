@@ -6,20 +6,21 @@
 // a line.
 #![tactic(auto)]
 
-ghost use Rattle.std.specs.Prelude.{◌≡◌, ◌<◌, take as List·take};
+ghost use Rattle.std.specs.Prelude.{◌≡◌, take as List·take};
 ghost use Rattle.io.specs.Counts.{IsPrefixLen};
 ghost use Rattle.report_held.specs.Promises.{LentStores, Partial};
 ghost use Rattle.output.specs.Promises.{WritesBytes};
-ghost use Rattle.report.specs.Turns.{turns_after};
+ghost use Rattle.report.specs.Turns.{goes_on};
 ghost use Rattle.report_input.specs.Promises.{Feeds};
 ghost use Rattle.report_lines.specs.Lines.{answer_lines};
 
 use input_lines::{PIECE, Unread};
 use output::Written;
+use record::Refusal;
 use report_held::Held;
 use report_lines::ROOM;
 use report_stored::{MOST, NUMBERS};
-use report_trees::Added;
+use report_trees::Report;
 
 fn main(rt: HostRuntime) {
     let mut piece = [0u8; PIECE];
@@ -29,7 +30,7 @@ fn main(rt: HostRuntime) {
 }
 
 // Takes the input up to its end or the first refusal, and prints what is told of it. A proved loop has to end, and nothing says that
-// an input does: so the turns are counted down, from a number that no run uses up.
+// an input does: so the turns are counted, up to a number that no run uses up.
 fn report_all(
     rt: &(impl Input + Print + Eprint),
     piece: &mut [u8; PIECE],
@@ -40,11 +41,12 @@ fn report_all(
 {
     let mut held = report_held::start();
     let mut unread = input::start();
-    let mut turns = u64::MAX;
-    while turns > 0 {
+    for _ in 0..u64::MAX {
         unread = input::read_piece(rt, piece);
         held = take(piece, unread, held, batch, numbers);
-        turns = turns_left(turns, unread, held);
+        if !goes_on(unread, held.report) {
+            break;
+        }
     }
     if !unread.failed {
         print_answer(rt, report_held::finish(held, batch));
@@ -62,20 +64,15 @@ fn take(piece: &[u8], unread: Unread, held: Held, batch: &mut [u8], numbers: &mu
     report_input::feed(&piece[..end], held, batch, numbers)
 }
 
-// How many turns are left: none once the input is refused, whatever follows, or has ended.
-fn turns_left(turns: u64, unread: Unread, held: Held) -> u64
-    requires { 0 < turns }
-    ensures { result ≡ turns_after turns unread held.report }
+// Whether more is read: not once the input is refused, whatever follows, or has ended.
+fn goes_on(unread: Unread, report: Result<Report, Refusal>) -> bool
+    ensures { result ≡ goes_on unread report }
 {
-    let report = held.report;
-    let Added::Done(_) = report else {
-        return 0;
-    };
-    if unread.open { turns - 1 } else { 0 }
+    report.is_ok() && unread.open
 }
 
 // Prints a report, or the number of a refusal.
-fn print_answer(rt: &(impl Print + Eprint), answer: Added) -> Result<Written, Refusal>
+fn print_answer(rt: &(impl Print + Eprint), answer: Result<Report, Refusal>) -> Written
     ensures { WritesBytes (answer_lines answer) result }
 {
     let mut out = [0u8; ROOM];

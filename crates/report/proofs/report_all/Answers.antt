@@ -1,30 +1,20 @@
--- `report_all` is safe and ends: the stores are as long as they were, and each turn leaves fewer. Assumes nothing.
+-- `report_all` is safe: what is held is always a part of a batch, and the stores are as long as they were. Assumes nothing.
 use mathlib.Core.Path.{refl, ◌∙◌}
 use mathlib.Core.Logic.{inl}
-use Rattle.report_held.proofs.Settling.{partial_inside}
-use Rattle.report.proofs.Turns.{turns_fewer}
 use native.Mathlib.Omega.{arith}
 use Rattle.report.proofs.report_all.Goals as goal
 
-pub loop-turns-init : goal.loop-turns-init
-loop-turns-init g c = (inl (omega (arith, c.start-held.ensures.0)), refl, refl)
+pub loop-init : goal.loop-init
+loop-init g c = record { partial = inl (omega (arith, c.start-held.ensures.0)); batch_long = refl; numbers_long = refl }
 
 pub take-held-requires : goal.take-held-requires
 take-held-requires g c =
     record {
       prefix_len = c.read_piece-unread.ensures;
-      lent_stores = record { batch_long = c.loop-turns.invariant.1 ∙ c.requires.batch_long; numbers_long = omega (arith, c.requires.numbers_long, c.loop-turns.invariant.2) };
-      partial = c.loop-turns.invariant.0;
+      lent_stores = record { batch_long = c.loop.invariant.batch_long ∙ c.requires.batch_long; numbers_long = omega (arith, c.requires.numbers_long, c.loop.invariant.numbers_long) };
+      partial = c.loop.invariant.partial;
     }
 
-pub loop-turns-smaller : goal.loop-turns-smaller
-loop-turns-smaller g c =
-    rw c.turns_left-turns.ensures (turns_fewer _ c.read_piece-unread.result c.take-held.result.report c.loop-turns-test.true)
-
-pub loop-turns-preserved : goal.loop-turns-preserved
-loop-turns-preserved g c =
-    (c.take-held.ensures.partial, c.take-held.auto.batch ∙ c.loop-turns.invariant.1, c.take-held.auto.numbers ∙ c.loop-turns.invariant.2)
-
-pub finish-requires : goal.finish-requires
-finish-requires g c =
-    (c.loop-turns.invariant.0, partial_inside _ _ (c.loop-turns.invariant.1 ∙ c.requires.batch_long) c.loop-turns.invariant.0)
+pub loop-preserved : goal.loop-preserved
+loop-preserved g c =
+    record { partial = c.take-held.ensures.partial; batch_long = c.take-held.auto.batch ∙ c.loop.invariant.batch_long; numbers_long = c.take-held.auto.numbers ∙ c.loop.invariant.numbers_long }
