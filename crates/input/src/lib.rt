@@ -4,7 +4,7 @@
 // one that it cut off. A program is a loop over `next_line`, or over `read_piece`.
 #![tactic(auto)]
 
-ghost use Rattle.std.specs.Prelude.{true, false, ◌≡◌};
+ghost use Rattle.std.specs.Prelude.{true, false, ◌≡◌, is_some, IfSome, IfOk};
 ghost use Rattle.io.specs.Counts.{IsPrefixLen};
 
 use input_lines::{Gathered, Line, PIECE, Unread};
@@ -29,8 +29,8 @@ pub fn next_line(
     line: &mut [u8],
     before: Unread,
 ) -> Line
-    ensures prefix_len { IsPrefixLen result.held line.new }
-    ensures failed_value { result.found ≡ true → result.unread.failed ≡ false }
+    ensures prefix_len { IfSome result.held (λ held. IfOk held (λ count. IsPrefixLen count line.new)) }
+    ensures failed_value { is_some result.held ≡ true → result.unread.failed ≡ false }
 {
     let gathered = gather(rt, piece, line, before);
     input_lines::told(line, gathered)
@@ -46,10 +46,7 @@ fn gather(
 ) -> Gathered {
     let mut gathered = input_lines::take(piece, line, 0, before);
     for _ in 0..u64::MAX {
-        if gathered.ended {
-            break;
-        }
-        if !gathered.unread.open {
+        if gathered.ended || !gathered.unread.open {
             break;
         }
         let unread = read_piece(rt, piece);

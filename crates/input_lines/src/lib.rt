@@ -2,7 +2,7 @@
 // read here; `input` reads.
 #![tactic(auto)]
 
-ghost use Rattle.std.specs.Prelude.{true, false, ◌≡◌, ◌≤◌};
+ghost use Rattle.std.specs.Prelude.{true, false, ◌≡◌, ◌≤◌, is_some, IfSome, IfOk};
 ghost use Rattle.io.specs.Counts.{IsPrefixLen};
 ghost use Rattle.input_lines.specs.Promises.{TakesBytes, Ended, NotEnded};
 
@@ -21,15 +21,16 @@ pub struct Unread {
     pub failed: bool,
 }
 
-// A line of the input: whether there is one, whether it was too long for its buffer, and how many of the buffer's bytes it is,
-// 0 if it is too long.
+// A line of the input, if there is one: how many of its buffer's bytes it is.
 #[derive(Clone, Copy)]
 pub struct Line {
-    pub found: bool,
-    pub long: bool,
-    pub held: usize,
+    pub held: Option<Result<usize, TooLong>>,
     pub unread: Unread,
 }
+
+// What a line is told as that has more bytes than its buffer.
+#[derive(Clone, Copy)]
+pub struct TooLong {}
 
 // What a line has so far, counted as `lines::keep` does, and whether its newline has come.
 #[derive(Clone, Copy)]
@@ -44,21 +45,18 @@ pub fn take(piece: &[u8; PIECE], line: &mut [u8], before: usize, unread: Unread)
     ensures { TakesBytes piece.now unread.at unread result }
 {
     let end = within(unread.end);
-    let room = line.len();
     let mut held = before;
-    let mut at = unread.at;
-    while at < end {
+    for at in unread.at..end {
         let byte = piece[at];
-        at += 1;
         if byte == NEWLINE {
-            return ended(held, at, end);
+            return ended(held, at + 1, end);
         }
         held = lines::keep(line, held, byte);
-        if held > room {
-            return pass(piece, held, at, unread);
+        if held > line.len() {
+            return pass(piece, held, at + 1, unread);
         }
     }
-    not_ended(held, at, unread)
+    not_ended(held, end.max(unread.at), unread)
 }
 
 // Passes over the rest of a line that is too long, up to its newline.
@@ -66,22 +64,19 @@ fn pass(piece: &[u8; PIECE], held: usize, from: usize, unread: Unread) -> Gather
     ensures { TakesBytes piece.now from unread result }
 {
     let end = within(unread.end);
-    let mut at = from;
-    while at < end {
-        let byte = piece[at];
-        at += 1;
-        if byte == NEWLINE {
-            return ended(held, at, end);
+    for at in from..end {
+        if piece[at] == NEWLINE {
+            return ended(held, at + 1, end);
         }
     }
-    not_ended(held, at, unread)
+    not_ended(held, end.max(from), unread)
 }
 
 // A piece has no bytes past its end.
 fn within(end: usize) -> usize
     ensures { result ≤ 65536 }
 {
-    if end < PIECE { end } else { PIECE }
+    end.min(PIECE)
 }
 
 // What a line has once its newline has come. The last read gave that byte, so it neither failed nor met the input's end.
@@ -105,43 +100,29 @@ fn ended(held: usize, at: usize, end: usize) -> Gathered
 fn not_ended(held: usize, at: usize, before: Unread) -> Gathered
     ensures { NotEnded at before result }
 {
-    let mut unread = before;
-    unread.at = at;
     Gathered {
         ended: false,
         held,
-        unread,
+        unread: Unread { at, ..before },
     }
 }
 
 // There is a line if its newline has come, or bytes with none after them. What a failed read cut off is none.
 pub fn told(line: &[u8], gathered: Gathered) -> Line
-    ensures prefix_len { IsPrefixLen result.held line.now }
-    ensures failed_value { result.found ≡ true → result.unread.failed ≡ false }
+    ensures prefix_len { IfSome result.held (λ held. IfOk held (λ count. IsPrefixLen count line.now)) }
+    ensures failed_value { is_some result.held ≡ true → result.unread.failed ≡ false }
 {
-    let held = gathered.held;
     let unread = gathered.unread;
-    if unread.failed {
-        return Line {
-            found: false,
-            long: false,
-            held: 0,
-            unread,
-        };
+    if unread.failed || !(gathered.ended || gathered.held > 0) {
+        return Line { held: None, unread };
     }
-    let found = gathered.ended || held > 0;
-    if held > line.len() {
-        return Line {
-            found,
-            long: true,
-            held: 0,
-            unread,
-        };
-    }
+    let held = if gathered.held > line.len() {
+        Err(TooLong {})
+    } else {
+        Ok(gathered.held)
+    };
     Line {
-        found,
-        long: false,
-        held,
+        held: Some(held),
         unread,
     }
 }

@@ -3,7 +3,7 @@
 #![tactic(auto)]
 
 ghost use Rattle.output.specs.Promises.{WritesBytes, Digits};
-ghost use Rattle.std.specs.Prelude.{◌≤◌, length};
+ghost use Rattle.std.specs.Prelude.{◌≤◌, length, IfOk};
 
 use std::io::{Error, ErrorKind};
 
@@ -61,12 +61,13 @@ fn write_turns(rt: &impl Print, bytes: &[u8]) -> Ended
         if count == bytes.len() {
             break;
         }
-        let step = write_some(rt, &bytes[count..]);
-        if step.failed {
-            error = step.error;
-            break;
+        match write_some(rt, &bytes[count..]) {
+            Ok(taken) => count += taken,
+            Err(why) => {
+                error = why;
+                break;
+            }
         }
-        count += step.taken;
     }
     Ended {
         written: Written {
@@ -77,29 +78,15 @@ fn write_turns(rt: &impl Print, bytes: &[u8]) -> Ended
     }
 }
 
-// One write: how many bytes it took, and whether it failed, and why.
-#[derive(Drop)]
-struct Step {
-    taken: usize,
-    failed: bool,
-    error: Error,
-}
-
-// A write that has to be made again took nothing and has not failed. One that takes nothing and gives no error has.
-fn write_some(rt: &impl Print, bytes: &[u8]) -> Step
-    ensures { result.taken ≤ length bytes.now }
+// One write: how many bytes it took. A write that has to be made again took nothing and has not failed. One that takes nothing and
+// gives no error has.
+fn write_some(rt: &impl Print, bytes: &[u8]) -> Result<usize, Error>
+    ensures { IfOk result (λ taken. taken ≤ length bytes.now) }
 {
     match rt.write_some(bytes) {
-        Ok(taken) => Step {
-            taken,
-            failed: taken == 0,
-            error: nothing_taken(),
-        },
-        Err(error) => Step {
-            taken: 0,
-            failed: !input_output::again_after(&error),
-            error,
-        },
+        Ok(0) => Err(nothing_taken()),
+        Err(error) if input_output::again_after(&error) => Ok(0),
+        answer => answer,
     }
 }
 

@@ -11,7 +11,7 @@ ghost use Rattle.io.specs.Counts.{IsPrefixLen};
 ghost use Rattle.replay_program.specs.Comments.{skips};
 ghost use Rattle.replay_program.specs.Promises.{Inside, is_skipped};
 
-use input_lines::{Line, PIECE, Unread};
+use input_lines::{PIECE, TooLong, Unread};
 use replay_answers::Outcome;
 use replay_cases::Part;
 
@@ -123,25 +123,24 @@ pub fn next_case(
 {
     let next = input::next_line(rt, piece, line, before);
     let unread = next.unread;
-    if !next.found {
+    let Some(held) = next.held else {
         return Next { case: None, unread };
-    }
+    };
     Next {
-        case: Some(held_case(line, next, numbers)),
+        case: Some(held_case(line, held, numbers)),
         unread,
     }
 }
 
 // A line longer than its buffer holds no case.
-fn held_case(line: &[u8], next: Line, numbers: &mut [u32]) -> Result<Case, NoCase>
-    requires { IsPrefixLen next.held line.now }
+fn held_case(line: &[u8], held: Result<usize, TooLong>, numbers: &mut [u32]) -> Result<Case, NoCase>
+    requires { IfOk held (λ count. IsPrefixLen count line.now) }
     ensures { IfOk result (λ case. Inside case (length numbers.new)) }
 {
-    if next.long {
-        return Err(NoCase::Bad);
+    match held {
+        Ok(count) => read_case(&line[..count], numbers),
+        Err(_) => Err(NoCase::Bad),
     }
-    let held = next.held;
-    read_case(&line[..held], numbers)
 }
 
 // The case that a line holds, its numbers put at the start of `numbers`.
