@@ -1,7 +1,6 @@
 -- The span of a node: what is answered, by the numbers that are stored; and what a user leans on.
 -- Assumes nothing.
 use mathlib.Core.Path.{◌≡◌, refl, sym, ap, ap₂, ◌∙◌}
-use mathlib.Core.Bool.{true, false, false≢true}
 use mathlib.Core.Option.{Option, none as nothing, some}
 use Prim.Native.Nat.{ℕ, ◌+◌, ◌*◌, ◌≤◌, ◌<◌}
 use native.Mathlib.Numerals.{add-one}
@@ -17,26 +16,27 @@ use Rattle.record.specs.Walk.{all_encodings}
 use Rattle.record.specs.declared.Refusal.TheVariants.{MalformedRecord}
 use Rattle.record.proofs.Flat.{row_stored, several_back}
 use Rattle.record_check.specs.Answers.{shape_of}
-use Rattle.record_check.specs.declared.Shape.TheVariants.{Malformed}
+use Rattle.record.specs.declared.Refusal.{Refusal}
+use Rattle.std.specs.Prelude.{Option as Answer, Some, None, Ok, Err}
 use Rattle.record_check.proofs.Checked.{none_of, any_of}
 use Rattle.lookup_spans.specs.Spans.{Span, span_of}
 use Rattle.lookup_spans.specs.Seen.{seen_of}
 use Rattle.lookup_spans.specs.declared.Seen.{Seen}
 use Rattle.lookup_texts.specs.NodeSpan.{span_told, span_answer}
 use Rattle.lookup_texts.specs.Promises.{rows_before}
-use Rattle.lookup_texts.specs.declared.SpanAnswer.TheVariants.{Refused, Nothing, Found}
+use Rattle.lookup_texts.specs.declared.Offsets.{Offsets}
 use Rattle.lookup_texts.proofs.Numbered.{numbered_in, numbered_past}
 use Rattle.lookup_texts.proofs.Nodes.{nodes_long, node_size, node_rows_lem, node_rows_within}
 
 -- ---- What was seen, as an answer
 
-told_found : {seen : Seen} (s : Option Span) → seen ≡ seen_of s → seen.found ≡ true → Found (record { 0 = seen.start }) (record { 0 = seen.end }) ≡ span_told s
-told_found nothing e t = absurd (false≢true (sym (ap (λ (x : Seen). x.found) e) ∙ t))
-told_found (some s) e t = ap (λ (x : Seen). Found (record { 0 = x.start }) (record { 0 = x.end })) e
+abbrev pub ends_of : Answer Seen → Answer Offsets
+ends_of None = None
+ends_of (Some seen) = Some (record { start = record { 0 = seen.start }; end = record { 0 = seen.end } })
 
-told_nothing : {seen : Seen} (s : Option Span) → seen ≡ seen_of s → seen.found ≡ false → Nothing ≡ span_told s
-told_nothing nothing e t = refl
-told_nothing (some s) e t = absurd (false≢true (sym t ∙ ap (λ (x : Seen). x.found) e))
+told : {seen : Answer Seen} (s : Option Span) → seen ≡ seen_of s → ends_of seen ≡ span_told s
+told nothing e = ap ends_of e
+told (some s) e = ap ends_of e
 
 -- ---- The rows before
 
@@ -50,7 +50,7 @@ rows_before_more nodes i = rw add-one
 
 -- ---- The answer
 
-pub span_malformed : (r : Reading) (k : ℕ) → shape_of r ≡ Malformed → span_answer r k ≡ Refused MalformedRecord
+pub span_malformed : (r : Reading) (k : ℕ) → {why : Refusal} → shape_of r ≡ Err why → span_answer r k ≡ Err MalformedRecord
 unfolding span_answer
 span_malformed r k e = none_of _ _ r e
 
@@ -59,9 +59,9 @@ rows_there : {rows : List ℕ} {j count : ℕ} {own : List Row} → RowsAt rows 
 rows_there {rows} {j} {count} {own} h e = ap₂ (several row_at row_width) e h.is ∙ several_back row_stored own h.rest
 
 module _ {nodes rows : List ℕ} {f : Forest} (s : Stores nodes rows f) (k : ℕ) where
-  pub span_past : length nodes ≤ k * node_width → span_answer (read nodes rows) k ≡ Nothing
+  pub span_past : length nodes ≤ k * node_width → span_answer (read nodes rows) k ≡ Ok None
   unfolding span_answer
-  span_past h = any_of _ _ s ∙ numbered_past Nothing (λ (E : Encoding). span_told (span_of E.rows)) (all_encodings f) k (omega (arith, nodes_long s))
+  span_past h = any_of _ _ s ∙ ap Ok (numbered_past None (λ (E : Encoding). span_told (span_of E.rows)) (all_encodings f) k (omega (arith, nodes_long s)))
 
   module _ (h : k * node_width < length nodes) where
     -- a node's own rows lie within the rows
@@ -71,27 +71,24 @@ module _ {nodes rows : List ℕ} {f : Forest} (s : Stores nodes rows f) (k : ℕ
         rw (node_size s k l) (node_rows_within s k l)
 
     -- what was seen of the rows that stand after those of the nodes before
-    module _ {first count : ℕ} {seen : Seen} (ef : first ≡ rows_before nodes k) (ec : count ≡ get_or nodes (k * node_width) 0) (e : seen ≡ seen_of (span_of (several row_at row_width count (drop (first * row_width) rows)))) where
+    module _ {first count : ℕ} {seen : Answer Seen} (ef : first ≡ rows_before nodes k) (ec : count ≡ get_or nodes (k * node_width) 0) (e : seen ≡ seen_of (span_of (several row_at row_width count (drop (first * row_width) rows)))) where
       abbrev seen_span : Option Span
       seen_span = span_of (several row_at row_width count (drop (first * row_width) rows))
 
-      span_here : span_told seen_span ≡ span_answer (read nodes rows) k
+      span_here : Ok (span_told seen_span) ≡ span_answer (read nodes rows) k
       unfolding span_answer
       span_here =
           let l : k < length (all_encodings f) = omega (arith, nodes_long s) in
           let own : several row_at row_width count (drop (first * row_width) rows) ≡ (get_or (all_encodings f) k empty).rows = rows_there {rows = rows} {j = first * row_width} (rw ef (node_rows_lem s k l)) (ec ∙ node_size s k l) in
-          ap (λ (R : List Row). span_told (span_of R)) own
-          ∙ sym (any_of _ _ s ∙ numbered_in Nothing (λ (E : Encoding). span_told (span_of E.rows)) (all_encodings f) k empty l)
+          ap (λ (R : List Row). Ok (span_told (span_of R))) own
+          ∙ sym (any_of _ _ s ∙ ap Ok (numbered_in None (λ (E : Encoding). span_told (span_of E.rows)) (all_encodings f) k empty l))
 
-      pub span_there : seen.found ≡ true → Found (record { 0 = seen.start }) (record { 0 = seen.end }) ≡ span_answer (read nodes rows) k
-      span_there t = told_found seen_span e t ∙ span_here
-
-      pub span_missing : seen.found ≡ false → Nothing ≡ span_answer (read nodes rows) k
-      span_missing t = told_nothing seen_span e t ∙ span_here
+      pub span_there : {was : Answer Seen} → seen ≡ was → Ok (ends_of was) ≡ span_answer (read nodes rows) k
+      span_there t = ap Ok (told seen_span (sym t ∙ e)) ∙ span_here
 
 -- ---- What a user leans on
 
 -- the answer for a node is the span of its own rows
-pub span_found : (f : Forest) (k : ℕ) → k < length (all_encodings f) → span_answer (holds f) k ≡ span_told (span_of (get_or (all_encodings f) k empty).rows)
+pub span_found : (f : Forest) (k : ℕ) → k < length (all_encodings f) → span_answer (holds f) k ≡ Ok (span_told (span_of (get_or (all_encodings f) k empty).rows))
 unfolding span_answer of_any
-span_found f k l = numbered_in Nothing (λ (E : Encoding). span_told (span_of E.rows)) (all_encodings f) k empty l
+span_found f k l = ap Ok (numbered_in None (λ (E : Encoding). span_told (span_of E.rows)) (all_encodings f) k empty l)

@@ -18,19 +18,22 @@ use Rattle.record.specs.declared.Refusal.TheVariants.{MalformedRecord, TextOutsi
 use Rattle.record.proofs.Flat.{length_rows}
 use Rattle.record.proofs.Walk.{flat_rows_lem, row_number, length_all_rows}
 use Rattle.record_check.specs.Answers.{shape_of}
-use Rattle.record_check.specs.declared.Shape.TheVariants.{Malformed}
+use Rattle.record.specs.declared.Refusal.{Refusal}
+use Rattle.std.specs.Prelude.{Option as Answer, Some, None, Result, Ok, Err}
 use Rattle.lookup_texts.specs.RowText.{pool_of, text_of, text_answer, part_of}
-use Rattle.lookup_texts.specs.declared.TextAnswer.{TextAnswer}
-use Rattle.lookup_texts.specs.declared.TextAnswer.TheVariants.{Refused, Nothing, Found}
+use Rattle.lookup_texts.specs.declared.TextPlace.{TextPlace}
 use Rattle.lookup_texts.proofs.Numbered.{numbered_in, numbered_past, numbered_all}
 use Rattle.record_check.proofs.Checked.{none_of, any_of}
 
 -- ---- The answer
 
+abbrev pub found_text : ℕ → ℕ → ℕ → Result (Answer TextPlace) Refusal
+found_text pool start size = Ok (Some (record { pool = pool; start = start; length = size }))
+
 blank : Row
 blank = row_at []
 
-pub text_malformed : (r : Reading) (k : ℕ) (tokens added : List ℕ) → shape_of r ≡ Malformed → text_answer r k tokens added ≡ Refused MalformedRecord
+pub text_malformed : (r : Reading) (k : ℕ) (tokens added : List ℕ) {why : Refusal} → shape_of r ≡ Err why → text_answer r k tokens added ≡ Err MalformedRecord
 unfolding text_answer
 text_malformed r k tokens added e = none_of _ _ r e
 
@@ -44,14 +47,14 @@ module _ {nodes rows : List ℕ} {f : Forest} (s : Stores nodes rows f) where
   row_whole k h = omega (arith, rows_long)
 
   module _ (k : ℕ) (tokens added : List ℕ) where
-    pub text_past : length rows ≤ k * row_width → text_answer (read nodes rows) k tokens added ≡ Nothing
+    pub text_past : length rows ≤ k * row_width → text_answer (read nodes rows) k tokens added ≡ Ok None
     unfolding text_answer
-    text_past h = any_of _ _ s ∙ numbered_past Nothing (text_of tokens added) (all_rows f) k (omega (arith, rows_long))
+    text_past h = any_of _ _ s ∙ numbered_past (Ok None) (text_of tokens added) (all_rows f) k (omega (arith, rows_long))
 
     module _ (h : k * row_width < length rows) where
       text_row : text_answer (read nodes rows) k tokens added ≡ text_of tokens added (get_or (all_rows f) k blank)
       unfolding text_answer
-      text_row = any_of _ _ s ∙ numbered_in Nothing (text_of tokens added) (all_rows f) k blank (omega (arith, rows_long))
+      text_row = any_of _ _ s ∙ numbered_in (Ok None) (text_of tokens added) (all_rows f) k blank (omega (arith, rows_long))
 
       number : (j : ℕ) → j < row_width → get_or rows (k * row_width + j) 0 ≡ get_or (row_numbers (get_or (all_rows f) k blank)) j 0
       number j l = rw (← s.rows_are, flat_rows_lem f) (row_number (all_rows f) k j blank (omega (arith, rows_long)) l)
@@ -66,41 +69,41 @@ module _ {nodes rows : List ℕ} {f : Forest} (s : Stores nodes rows f) where
       abbrev size : ℕ
       size = get_or rows (k * row_width + 4) 0
 
-      text_stored : text_answer (read nodes rows) k tokens added ≡ cond (leb (start + size) (length (pool_of pool tokens added))) (Found pool start size) (Refused TextOutsidePool)
+      text_stored : text_answer (read nodes rows) k tokens added ≡ cond (leb (start + size) (length (pool_of pool tokens added))) (found_text pool start size) (Err TextOutsidePool)
       unfolding text_of row_numbers
       text_stored = text_row ∙ rw (number 2 (omega arith), number 3 (omega arith), number 4 (omega arith))
 
-      pub text_inside_lem : start + size ≤ length (pool_of pool tokens added) → text_answer (read nodes rows) k tokens added ≡ Found pool start size
+      pub text_inside_lem : start + size ≤ length (pool_of pool tokens added) → text_answer (read nodes rows) k tokens added ≡ found_text pool start size
       text_inside_lem l = text_stored ∙ rw (le-leb _ _ l)
 
-      pub text_outside : length (pool_of pool tokens added) < start + size → text_answer (read nodes rows) k tokens added ≡ Refused TextOutsidePool
+      pub text_outside : length (pool_of pool tokens added) < start + size → text_answer (read nodes rows) k tokens added ≡ Err TextOutsidePool
       text_outside l = text_stored ∙ rw (lt-leb _ _ l)
 
 -- ---- What is found
 
 -- what is found lies in its pool
-abbrev pub Inside : List ℕ → List ℕ → TextAnswer → Type 0
-Inside tokens added (Refused k) = Unit {0}
-Inside tokens added Nothing = Unit {0}
-Inside tokens added (Found p a n) = a + n ≤ length (pool_of p tokens added)
+abbrev pub Inside : List ℕ → List ℕ → Result (Answer TextPlace) Refusal → Type 0
+Inside tokens added (Err k) = Unit {0}
+Inside tokens added (Ok None) = Unit {0}
+Inside tokens added (Ok (Some t)) = t.start + t.length ≤ length (pool_of t.pool tokens added)
 
 pub text_lies : (r : Reading) (k : ℕ) (tokens added : List ℕ) → Inside tokens added (text_answer r k tokens added)
 unfolding text_answer of_any text_of
 text_lies malformed k tokens added = tt
 text_lies (holds f) k tokens added =
-    numbered_all Nothing (text_of tokens added) (Inside tokens added) tt
+    numbered_all (Ok None) (text_of tokens added) (Inside tokens added) tt
     (λ r. go r (leb (r.text_start + r.text_length) (length (pool_of r.pool tokens added))) (leb-true _ _))
     (all_rows f) k
   where
-    go : (r : Row) (b : Bool) → (b ≡ true → r.text_start + r.text_length ≤ length (pool_of r.pool tokens added)) → Inside tokens added (cond b (Found r.pool r.text_start r.text_length) (Refused TextOutsidePool))
+    go : (r : Row) (b : Bool) → (b ≡ true → r.text_start + r.text_length ≤ length (pool_of r.pool tokens added)) → Inside tokens added (cond b (found_text r.pool r.text_start r.text_length) (Err TextOutsidePool))
     go r true h = h refl
     go r false h = tt
 
-pub found_inside : (r : Reading) (k : ℕ) (tokens added : List ℕ) {p a n : ℕ} → text_answer r k tokens added ≡ Found p a n → a + n ≤ length (pool_of p tokens added)
+pub found_inside : (r : Reading) (k : ℕ) (tokens added : List ℕ) {p a n : ℕ} → text_answer r k tokens added ≡ found_text p a n → a + n ≤ length (pool_of p tokens added)
 found_inside r k tokens added e = subst (Inside tokens added) e (text_lies r k tokens added)
 
 -- a found text has as many bytes as its row says
-pub found_length : (r : Reading) (k : ℕ) (tokens added : List ℕ) {p a n : ℕ} → text_answer r k tokens added ≡ Found p a n → length (part_of (text_answer r k tokens added) tokens added) ≡ n
+pub found_length : (r : Reading) (k : ℕ) (tokens added : List ℕ) {p a n : ℕ} → text_answer r k tokens added ≡ found_text p a n → length (part_of (text_answer r k tokens added) tokens added) ≡ n
 found_length r k tokens added {p} {a} {n} e =
     let h : a + n ≤ length (pool_of p tokens added) = found_inside r k tokens added e in
     rw e (length-take n (drop a (pool_of p tokens added)) ∙ omega (arith, length-drop a (pool_of p tokens added)))
@@ -114,7 +117,7 @@ pub pool_added : {p : ℕ} (tokens added : List ℕ) → (p ≡ 0 → ⊥) → p
 pool_added {p} tokens added e = rw (ne_eqb p 0 e)
 
 -- a text is found, and `l` is its pool
-module _ (r : Reading) (k : ℕ) (tokens added : List ℕ) {p a n from size : ℕ} {l : List ℕ} (e : text_answer r k tokens added ≡ Found p a n) (el : pool_of p tokens added ≡ l) (ea : from ≡ a) (en : size ≡ n) where
+module _ (r : Reading) (k : ℕ) (tokens added : List ℕ) {p a n from size : ℕ} {l : List ℕ} (e : text_answer r k tokens added ≡ found_text p a n) (el : pool_of p tokens added ≡ l) (ea : from ≡ a) (en : size ≡ n) where
   pub part_fits : from + size ≤ length l
   part_fits = rw (ea, en, ← el) (found_inside r k tokens added e)
 

@@ -13,8 +13,7 @@ use Rattle.lookup_texts.specs.Numbered.{numbered}
 use Rattle.lookup_texts.specs.RowText.{text_of, text_answer, part_of}
 use Rattle.lookup_spans.specs.Spans.{span_of}
 use Rattle.lookup_texts.specs.NodeSpan.{span_answer}
-use Rattle.lookup_texts.specs.declared.TextAnswer.TheVariants.{Refused, Nothing, Found}
-use Rattle.lookup_texts.specs.declared.SpanAnswer.TheVariants as span
+use Rattle.std.specs.Prelude.{Some, None, Ok, Err}
 
 row : ℕ → ℕ → ℕ → ℕ → ℕ → Row
 row p a n from to = record { id = 0; type_id = 0; pool = p; text_start = a; text_length = n; word_mark = 0; word = 0; offset_start = from; offset_end = to; special = 0; attention = 1 }
@@ -29,7 +28,7 @@ tokens = 97 ∷ 98 ∷ 99 ∷ []
 added : List ℕ
 added = 120 ∷ 121 ∷ 122 ∷ []
 
-token_text : text_answer (holds batch) 0 tokens added ≡ Found 0 1 2
+token_text : text_answer (holds batch) 0 tokens added ≡ Ok (Some (record { pool = 0; start = 1; length = 2 }))
 unfolding row batch tokens added text_answer text_of of_any numbered all_rows
 token_text = refl
 
@@ -43,35 +42,35 @@ unfolding row batch tokens added text_answer text_of of_any numbered all_rows
 added_part = refl
 
 -- one byte past its pool
-window_text : text_answer (holds batch) 2 tokens added ≡ Refused TextOutsidePool
+window_text : text_answer (holds batch) 2 tokens added ≡ Err TextOutsidePool
 unfolding row batch tokens added text_answer text_of of_any numbered all_rows
 window_text = refl
 
-past_rows : text_answer (holds batch) 3 tokens added ≡ Nothing
+past_rows : text_answer (holds batch) 3 tokens added ≡ Ok None
 unfolding row batch text_answer of_any numbered all_rows
 past_rows = refl
 
-no_rows : text_answer (holds none) 0 tokens added ≡ Nothing
+no_rows : text_answer (holds none) 0 tokens added ≡ Ok None
 unfolding text_answer of_any numbered all_rows
 no_rows = refl
 
-refused_text : text_answer malformed 0 tokens added ≡ Refused MalformedRecord
+refused_text : text_answer malformed 0 tokens added ≡ Err MalformedRecord
 unfolding text_answer of_any
 refused_text = refl
 
-first_span : span_answer (holds batch) 0 ≡ span.Found (record { 0 = 3 }) (record { 0 = 9 })
+first_span : span_answer (holds batch) 0 ≡ Ok (Some (record { start = record { 0 = 3 }; end = record { 0 = 9 } }))
 unfolding row batch span_answer span_of of_any numbered all_encodings
 first_span = refl
 
-window_span : span_answer (holds batch) 1 ≡ span.Found (record { 0 = 4 }) (record { 0 = 7 })
+window_span : span_answer (holds batch) 1 ≡ Ok (Some (record { start = record { 0 = 4 }; end = record { 0 = 7 } }))
 unfolding row batch span_answer span_of of_any numbered all_encodings
 window_span = refl
 
-empty_span : span_answer (holds batch) 2 ≡ span.Nothing
+empty_span : span_answer (holds batch) 2 ≡ Ok None
 unfolding row batch span_answer span_of of_any numbered all_encodings
 empty_span = refl
 
-past_nodes : span_answer (holds batch) 3 ≡ span.Nothing
+past_nodes : span_answer (holds batch) 3 ≡ Ok None
 unfolding row batch span_answer of_any numbered all_encodings
 past_nodes = refl
 
@@ -85,10 +84,10 @@ log : Forest
 log = node (masked 1 0 0 ∷ masked 0 6 9 ∷ masked 0 4 7 ∷ masked 2 1 99 ∷ masked 0 5 8 ∷ masked 1 0 0 ∷ []) (replicate sequences absent) (node (masked 1 0 0 ∷ masked 1 0 0 ∷ []) (replicate sequences absent) none none) none
 
 -- its least start stands in its third row, its greatest end in its second
-log_span : span_answer (holds log) 0 ≡ span.Found (record { 0 = 4 }) (record { 0 = 9 })
+log_span : span_answer (holds log) 0 ≡ Ok (Some (record { start = record { 0 = 4 }; end = record { 0 = 9 } }))
 unfolding masked log span_answer span_of of_any numbered all_encodings
 log_span = refl
 
-added_span : span_answer (holds log) 1 ≡ span.Nothing
+added_span : span_answer (holds log) 1 ≡ Ok None
 unfolding masked log span_answer span_of of_any numbered all_encodings
 added_span = refl

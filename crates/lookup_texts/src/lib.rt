@@ -10,49 +10,50 @@ ghost use Rattle.record.specs.Flat.{node_width};
 ghost use Rattle.record.specs.Read.{read};
 
 use record::{Column, Encoding, Place, Refusal, Row};
-use record_check::Shape;
 
 // Where a row's text lies: in the token texts (pool 0) or the added texts (pool 1), from start on.
 #[derive(Clone, Copy)]
-pub enum TextAnswer {
-    Refused(Refusal),
-    Nothing,
-    Found { pool: u32, start: u32, length: u32 },
+pub struct TextPlace {
+    pub pool: u32,
+    pub start: u32,
+    pub length: u32,
 }
 
 // A node's least offset start and greatest offset end over its own rows with special mask 0.
 #[derive(Clone, Copy)]
-pub enum SpanAnswer {
-    Refused(Refusal),
-    Nothing,
-    Found { start: Place, end: Place },
+pub struct Offsets {
+    pub start: Place,
+    pub end: Place,
 }
 
 // Where the text of a row lies in the two pools, nothing past the last row. Refused with 1, and with 14 if the text
 // passes the end of its pool.
-pub fn text(nodes: &[u32], rows: &[u32], row: Row, tokens: &[u8], added: &[u8]) -> TextAnswer
+pub fn text(
+    nodes: &[u32],
+    rows: &[u32],
+    row: Row,
+    tokens: &[u8],
+    added: &[u8],
+) -> Result<Option<TextPlace>, Refusal>
     ensures { result ≡ text_answer (read nodes.now rows.now) row.0 tokens.now
         added.now }
 {
-    let shape = record_check::check_batch(nodes, rows);
-    let Shape::Encodings(_) = shape else {
-        return TextAnswer::Refused(Refusal::MalformedRecord);
-    };
+    record_check::check_batch(nodes, rows)?;
     let at = row.0 as usize * Encoding::ROW_WIDTH;
     if rows.len() <= at {
-        return TextAnswer::Nothing;
+        return Ok(None);
     }
     let pool = rows[at + Column::POOL];
     let start = rows[at + Column::TEXT_START];
     let length = rows[at + Column::TEXT_LENGTH];
-    if start as usize + (length as usize) <= pool_length(pool, tokens, added) {
-        TextAnswer::Found {
+    if start as usize + (length as usize) <= pool_of(pool, tokens, added).len() {
+        Ok(Some(TextPlace {
             pool,
             start,
             length,
-        }
+        }))
     } else {
-        TextAnswer::Refused(Refusal::TextOutsidePool)
+        Err(Refusal::TextOutsidePool)
     }
 }
 
@@ -68,47 +69,35 @@ pub fn text_part<'a>(
         (text_answer (read nodes.now rows.now) row.0 tokens.now added.now)
         tokens.now added.now }
 {
-    let answer = text(nodes, rows, row, tokens, added);
-    let TextAnswer::Found {
-        pool,
-        start,
-        length,
-    } = answer
-    else {
-        return &tokens[..0];
-    };
-    let from = start as usize;
-    let to = from + length as usize;
-    if pool == 0 {
-        &tokens[from..to]
-    } else {
-        &added[from..to]
+    match text(nodes, rows, row, tokens, added) {
+        Ok(Some(found)) => {
+            let from = found.start as usize;
+            let to = from + found.length as usize;
+            &pool_of(found.pool, tokens, added)[from..to]
+        }
+        Ok(None) => &tokens[..0],
+        Err(_) => &tokens[..0],
     }
 }
 
 // A node's least offset start and greatest offset end over its own rows with special mask 0, nothing without such rows or
 // past the last node. Refused with 1.
-pub fn span(nodes: &[u32], rows: &[u32], node: u32) -> SpanAnswer
+pub fn span(nodes: &[u32], rows: &[u32], node: u32) -> Result<Option<Offsets>, Refusal>
     ensures { result ≡ span_answer (read nodes.now rows.now) node }
 {
-    let shape = record_check::check_batch(nodes, rows);
-    let Shape::Encodings(_) = shape else {
-        return SpanAnswer::Refused(Refusal::MalformedRecord);
-    };
+    record_check::check_batch(nodes, rows)?;
     let at = node as usize * Encoding::NODE_WIDTH;
     if nodes.len() <= at {
-        return SpanAnswer::Nothing;
+        return Ok(None);
     }
     let first = rows_before(nodes, node);
-    let seen = lookup_spans::span_of(rows, first, nodes[at] as usize);
-    if seen.found {
-        SpanAnswer::Found {
-            start: Place(seen.start),
-            end: Place(seen.end),
-        }
-    } else {
-        SpanAnswer::Nothing
-    }
+    let Some(seen) = lookup_spans::span_of(rows, first, nodes[at] as usize) else {
+        return Ok(None);
+    };
+    Ok(Some(Offsets {
+        start: Place(seen.start),
+        end: Place(seen.end),
+    }))
 }
 
 // The number of rows of the nodes before this one, after which its own begin.
@@ -116,22 +105,16 @@ fn rows_before(nodes: &[u32], node: u32) -> usize
     requires { node * node_width ≤ length nodes.now }
     ensures { result ≡ rows_before nodes.now node }
 {
-    let end = node as usize;
     let mut count: usize = 0;
-    let mut i: usize = 0;
-    while i < end {
+    for i in 0..node as usize {
         count += nodes[i * Encoding::NODE_WIDTH] as usize;
-        i += 1;
     }
     count
 }
 
-// The length of the pool that holds a text.
-fn pool_length(pool: u32, tokens: &[u8], added: &[u8]) -> usize
-    ensures { result ≡ length (pool_of pool tokens.now added.now) }
+// The pool that holds a text.
+fn pool_of<'a>(pool: u32, tokens: &'a [u8], added: &'a [u8]) -> &'a [u8]
+    ensures { result.now ≡ pool_of pool tokens.now added.now }
 {
-    if pool == 0 {
-        return tokens.len();
-    }
-    added.len()
+    if pool == 0 { tokens } else { added }
 }

@@ -1,43 +1,28 @@
 -- `span` answers for the node's own rows, which stand after those of the nodes before it. Assumes nothing.
-use mathlib.Core.Path.{sym, ◌∙◌}
+use mathlib.Core.Path.{◌≡◌, refl, sym, ap, ◌∙◌}
 use native.Mathlib.Omega.{arith}
-use Rattle.record.specs.Tree.{Forest}
-use Rattle.record.specs.WellFormed.{Stores}
-use Rattle.record_check.proofs.Checked.{any_there}
-use Rattle.lookup_texts.proofs.NodeSpan.{own_rows_within, span_malformed, span_past, span_there, span_missing}
+use borrow.Author.Rules.{rules}
+use Rattle.std.specs.Prelude.{Err}
+use Rattle.record_check.proofs.Checked.{any_there, refused_as}
+use Rattle.lookup_texts.proofs.NodeSpan.{own_rows_within, span_malformed, span_past, span_there}
 use Rattle.lookup_texts.proofs.span.Goals as goal
-use Rattle.lookup_texts.proofs.span.Lts as Lts
-use Rattle.lookup_texts.proofs.span.Reads as Reads
-use Rattle.lookup_texts.proofs.span.Tie as tie
 
--- ---- Places in the code
-
-abbrev In-Encodings : Type 0
-In-Encodings = Lts.Past-After-enum_told tie.the-claims Reads.Pre Reads.Post
-
--- the check has passed
-stored : (c : In-Encodings) → (f : Forest) × Stores c.args.nodes.now c.args.rows.now f
-stored c = any_there _ _ _ (sym c.check_batch-shape.ensures ∙ c.in-Encodings.is)
-
-pub returns-in_default : goal.returns-in_default
-returns-in_default c = sym (span_malformed _ _ (sym c.check_batch-shape.ensures ∙ c.in_default.is))
+pub returns-in_err-check_batch : goal.returns-in_err-check_batch
+returns-in_err-check_batch c =
+    let same : c.from_residual.result ≡ Err c.in_err-check_batch.field-0.0 = search rules in
+    let shape = sym c.check_batch.ensures ∙ c.in_err-check_batch.was in
+    same ∙ ap Err (refused_as _ shape) ∙ sym (span_malformed _ _ shape)
 
 pub returns-then-nodes-at : goal.returns-then-nodes-at
-returns-then-nodes-at c = sym (span_past (stored c.before.before).1 _ (omega (arith, c.if-nodes-at.true)))
+returns-then-nodes-at c = sym (span_past (any_there _ _ _ (sym c.check_batch.ensures ∙ c.in_ok-check_batch.was)).1 _ c.if-nodes-at.true)
 
-pub span_of-seen-requires : goal.span_of-seen-requires
-span_of-seen-requires c =
-    let e = c.before.before.before.before in
-    omega (arith, own_rows_within (stored e.before).1 _ e.if-nodes-at.false, c.rows_before-first.ensures, c.wide.ensures)
+pub span_of-requires : goal.span_of-requires
+span_of-requires c = omega (arith, own_rows_within (any_there _ _ _ (sym c.check_batch.ensures ∙ c.in_ok-check_batch.was)).1 _ c.if-nodes-at.false, c.rows_before-first.ensures)
 
-pub returns-then-seen : goal.returns-then-seen
-returns-then-seen c =
-    let r = c.before.before in
-    let e = r.before.before.before.before in
-    span_there (stored e.before).1 _ e.if-nodes-at.false r.rows_before-first.ensures r.wide.ensures r.span_of-seen.ensures c.if-seen.true
+pub returns-in_default : goal.returns-in_default
+returns-in_default c =
+    span_there (any_there _ _ _ (sym c.check_batch.ensures ∙ c.in_ok-check_batch.was)).1 _ c.if-nodes-at.false c.rows_before-first.ensures refl c.span_of.ensures c.in_default.is
 
-pub returns-else-seen : goal.returns-else-seen
-returns-else-seen c =
-    let r = c.before.before in
-    let e = r.before.before.before.before in
-    span_missing (stored e.before).1 _ e.if-nodes-at.false r.rows_before-first.ensures r.wide.ensures r.span_of-seen.ensures c.if-seen.false
+pub returns : goal.returns
+returns c =
+    span_there (any_there _ _ _ (sym c.check_batch.ensures ∙ c.in_ok-check_batch.was)).1 _ c.if-nodes-at.false c.rows_before-first.ensures refl c.span_of.ensures c.in-Some.is
