@@ -4,29 +4,21 @@
 ghost use Rattle.std.specs.Prelude.{◌≡◌};
 ghost use Rattle.record.specs.Outcome.{Writes};
 ghost use Rattle.record.specs.Read.{read};
-ghost use Rattle.truncate_pair.specs.Promises.{second_rows_at, length_for};
+ghost use Rattle.truncate_pair.specs.Promises.{second_rows_at};
 ghost use Rattle.truncate_pair.specs.CutPair.{cut_pair_outcome};
 
-use cut_lengths::Second;
 use cut_plan::Direction;
 use record::{Encoding, Refusal, Written};
 
-// To how many rows the second of a pair is cut, or that it stays whole.
-#[derive(Clone, Copy)]
-pub enum SecondLength {
-    Whole,
-    Rows(u32),
-}
-
 // One or two encodings, the first cut to first_length rows and the second, if there is one, to second_length, each as truncate
-// cuts it; a length for a missing second is passed over.
+// cuts it; a length for a missing second is passed over, and a second without one stays whole.
 // Refuses 1 a malformed record or another number of encodings, 3 a stride of as many rows as either is cut to or more, 2 no
 // room for both.
 pub fn cut_pair(
     nodes: &[u32],
     rows: &[u32],
     first_length: u32,
-    second_length: SecondLength,
+    second_length: Option<u32>,
     stride: u32,
     direction: Direction,
     out_nodes: &mut [u32],
@@ -42,7 +34,7 @@ pub fn cut_pair(
     let own = record_extent::measure(nodes, 0, 1);
     let second = second_rows(nodes, own.nodes * Encoding::NODE_WIDTH);
     match second {
-        Second::Missing => {
+        None => {
             truncate::cut_one(
                 nodes,
                 rows,
@@ -54,13 +46,14 @@ pub fn cut_pair(
                 out_rows,
             )
         }
-        Second::Rows(n) => {
+        Some(n) => {
             truncate_two::cut_two(
                 nodes,
                 rows,
                 own,
                 first_length,
-                length_for(second_length, n),
+                // As a cut to all rows changes nothing.
+                second_length.unwrap_or(n),
                 stride,
                 direction,
                 out_nodes,
@@ -71,22 +64,8 @@ pub fn cut_pair(
 }
 
 // The row count of the second encoding, whose node stands at i if there is one.
-fn second_rows(nodes: &[u32], i: usize) -> Second
+fn second_rows(nodes: &[u32], i: usize) -> Option<u32>
     ensures { result ≡ second_rows_at nodes.now i }
 {
-    if i < nodes.len() {
-        Second::Rows(nodes[i])
-    } else {
-        Second::Missing
-    }
-}
-
-// The length for a second of so many rows: all of them where it stays whole, as a cut to all rows changes nothing.
-fn length_for(length: SecondLength, rows: u32) -> u32
-    ensures { result ≡ length_for length rows }
-{
-    match length {
-        SecondLength::Whole => rows,
-        SecondLength::Rows(n) => n,
-    }
+    nodes.get(i).copied()
 }

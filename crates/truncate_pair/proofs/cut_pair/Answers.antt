@@ -37,7 +37,7 @@ cut_one-requires c =
     let t : (E : Encoding) × (second : Option Encoding) × OneOrTwo c.args.nodes.now c.args.rows.now E second = one_or_two_there _ _ (sym c.is_one_or_two.ensures ∙ c.if-not-is_one_or_two.false) in
     let measured = c.measure-own.ensures _ (here_stands (first_here t.1 t.2)) in
     let found = c.second_rows-second.ensures ∙ second_at t.1 t.2 measured in
-    let a = cut_alone_lem v.out_nodes.now v.out_rows.now v.first_length v.second_length v.stride v.direction t.1 t.2 (sym c.in-Missing.is ∙ found) in
+    let a = cut_alone_lem v.out_nodes.now v.out_rows.now v.first_length v.second_length v.stride v.direction t.1 t.2 (sym c.in-None.is ∙ found) in
     record { E = t.0; one = a.0; measured = measured }
 
 pub cut_two-requires : goal.cut_two-requires
@@ -46,23 +46,23 @@ cut_two-requires c =
     let t : (E : Encoding) × (second : Option Encoding) × OneOrTwo c.args.nodes.now c.args.rows.now E second = one_or_two_there _ _ (sym c.is_one_or_two.ensures ∙ c.if-not-is_one_or_two.false) in
     let measured = c.measure-own.ensures _ (here_stands (first_here t.1 t.2)) in
     let found = c.second_rows-second.ensures ∙ second_at t.1 t.2 measured in
-    let a = cut_both_lem v.out_nodes.now v.out_rows.now v.first_length v.second_length v.stride v.direction t.1 t.2 _ (sym c.in-Rows.is ∙ found) in
+    let a = cut_both_lem v.out_nodes.now v.out_rows.now v.first_length v.second_length v.stride v.direction t.1 t.2 _ (sym c.in-Some.is ∙ found) in
     (t.0, a.0, record { stored = a.1; measured = measured })
 
-pub returns-in-Missing : goal.returns-in-Missing
-returns-in-Missing c =
+pub returns-in-None : goal.returns-in-None
+returns-in-None c =
     let v = c.args in
     let t : (E : Encoding) × (second : Option Encoding) × OneOrTwo c.args.nodes.now c.args.rows.now E second = one_or_two_there _ _ (sym c.is_one_or_two.ensures ∙ c.if-not-is_one_or_two.false) in
     let measured = c.measure-own.ensures _ (here_stands (first_here t.1 t.2)) in
     let found = c.second_rows-second.ensures ∙ second_at t.1 t.2 measured in
-    let a = cut_alone_lem v.out_nodes.now v.out_rows.now v.first_length v.second_length v.stride v.direction t.1 t.2 (sym c.in-Missing.is ∙ found) in
+    let a = cut_alone_lem v.out_nodes.now v.out_rows.now v.first_length v.second_length v.stride v.direction t.1 t.2 (sym c.in-None.is ∙ found) in
     rw a.1 (c.cut_one.ensures t.0 a.0 measured)
 
-pub returns-in-Rows : goal.returns-in-Rows
-returns-in-Rows c =
+pub returns-in-Some : goal.returns-in-Some
+returns-in-Some c =
     let v = c.args in
     let t : (E : Encoding) × (second : Option Encoding) × OneOrTwo c.args.nodes.now c.args.rows.now E second = one_or_two_there _ _ (sym c.is_one_or_two.ensures ∙ c.if-not-is_one_or_two.false) in
     let measured = c.measure-own.ensures _ (here_stands (first_here t.1 t.2)) in
     let found = c.second_rows-second.ensures ∙ second_at t.1 t.2 measured in
-    let a = cut_both_lem v.out_nodes.now v.out_rows.now v.first_length v.second_length v.stride v.direction t.1 t.2 _ (sym c.in-Rows.is ∙ found) in
-    rw (a.2, ← c.length_for.ensures) (c.cut_two.ensures t.0 a.0 (record { stored = a.1; measured = measured }))
+    let a = cut_both_lem v.out_nodes.now v.out_rows.now v.first_length v.second_length v.stride v.direction t.1 t.2 _ (sym c.in-Some.is ∙ found) in
+    rw (a.2, ← c.unwrap_or.ensures) (c.cut_two.ensures t.0 a.0 (record { stored = a.1; measured = measured }))
