@@ -29,6 +29,7 @@ pub fn profile_at(nodes: &[u32], start: usize) -> Profile
     let mut depth: usize = 1;
     let mut i = start;
     pending[0] = 1;
+    // A while: each turn opens a level or leaves one, which a range doesn't.
     while depth > 0 {
         let level = depth - 1;
         let left = pending[level];

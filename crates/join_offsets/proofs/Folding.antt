@@ -8,7 +8,7 @@ use mathlib.Core.List.{List, [], ◌∷◌}
 use lib.Dec.{leb}
 use lib.ListN.{length}
 use borrow.Author.Tests.{le-leb, lt-leb}
-use Rattle.record.specs.Tree.{Forest, none, node, Encoding, listed, forest, empty}
+use Rattle.record.specs.Tree.{Row, Forest, none, node, Encoding, listed, forest, empty}
 use Rattle.record.specs.Flat.{row_width, node_width}
 use Rattle.record.specs.WellFormed.{Stores, nodes_in, rows_in}
 use Rattle.record.specs.Walk.{all_rows}
@@ -24,7 +24,7 @@ use Rattle.join_trees.proofs.Offsets.{OffsetsFit, tells_offsets}
 use Rattle.join_reach.specs.Reach.{largest_offset, largest, largest_base}
 use Rattle.join_reach.specs.Promises.{RowsFrom, NodesFrom}
 use Rattle.join_offsets.proofs.Joined.{base_fits, base_joins, join_fits_growing}
-use Rattle.join_offsets.proofs.Given.{stores_here, nodes_from, rows_from_lem, here_stands}
+use Rattle.join_offsets.proofs.Given.{offset_all, stores_here, nodes_from, rows_from_lem, here_stands}
 
 -- of the batch f the encodings before places i and j are folded, those from there on are to come
 pub record Folded (nodes rows : List ℕ) (f : Forest) (base i j : ℕ) : Type 0 where
@@ -92,6 +92,10 @@ module _ {nodes rows : List ℕ} {f : Forest} {base i j : ℕ} (n : Next nodes r
 
     pub next_there : (0 < size.nodes) × (i + size.nodes * node_width ≤ length nodes) × (j + size.rows * row_width ≤ length rows)
     next_there = (omega (arith, nodes_are), omega (arith, nodes_are, n.ends), omega (arith, rows_are, here_rows_fit next_first))
+
+  -- its largest offset
+  pub next_offset : {size : Extent} {o : ℕ} → size ≡ size_of (forest (n.E ∷ [])) → ((R : List Row) → RowsFrom rows j size.rows R → o ≡ largest_offset R) → o ≡ largest largest_offset (forest (n.E ∷ []))
+  next_offset e is = is (all_rows (forest (n.E ∷ []))) (next_rows e) ∙ offset_all (forest (n.E ∷ []))
 
   joins_within : join_fits true n.folded.so_far n.E ≡ leb (base + largest largest_offset (forest (n.E ∷ []))) most_offset
   joins_within = join_fits_growing n.folded.so_far n.E n.folded.fits ∙ ap (λ (k : ℕ). leb (k + largest largest_offset (forest (n.E ∷ []))) most_offset) (sym n.folded.base_is)

@@ -81,6 +81,7 @@ fn steps_fit(nodes: &[u32], rows: &[u32]) -> bool
     let mut base: usize = 0;
     let mut i: usize = 0;
     let mut j: usize = 0;
+    // A while: the step is the encoding's own size, which a range doesn't have.
     while i < nodes.len() {
         let size = record_extent::measure(nodes, i, 1);
         let offset = join_reach::largest_offset(rows, j, size.rows);

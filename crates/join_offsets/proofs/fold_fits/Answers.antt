@@ -12,7 +12,7 @@ use Rattle.join_offsets.proofs.fold_fits.Goals as goal
 
 pub returns-then-not-growing : goal.returns-then-not-growing
 returns-then-not-growing c = λ f h.
-    let fits : OffsetsFit f = stored_fits h (λ i. omega (arith, c.shared_slice_known-2-1.given i)) in
+    let fits : OffsetsFit f = stored_fits h (λ i. omega (arith, c.type_inv.rows i)) in
     sym (ap (λ (g : Bool). fold_fits g (listed f)) c.if-not-growing.true ∙ fold_fits_still (listed f) (subst OffsetsFit (sym (forest_listed f)) fits))
 
 pub far_within-requires : goal.far_within-requires

@@ -2,10 +2,11 @@
 -- growing every join fits, as the operands' numbers do. Assumes nothing.
 use borrow.Author.Tests.{le-leb}
 use native.Mathlib.Omega.{arith}
-use Prim.Native.Nat.{ℕ, ◌+◌}
+use Prim.Native.Nat.{ℕ, ◌+◌, ◌≤◌}
 use mathlib.Core.Path.{◌≡◌, sym, ap, ap₂, ◌∙◌}
-use mathlib.Core.Bool.{Bool}
-use mathlib.Core.List.{[], ◌∷◌}
+use mathlib.Core.Bool.{Bool, true}
+use mathlib.Core.List.{List, [], ◌∷◌}
+use lib.ListN.{get_or}
 use lib.Dec.{leb}
 use Rattle.record.specs.Tree.{Encoding, forest}
 use Rattle.record.specs.Walk.{all_rows}
@@ -17,22 +18,11 @@ use Rattle.join_offsets.proofs.Joined.{join_fits_growing}
 use Rattle.join_offsets.proofs.Known.{stored_fits}
 use Rattle.join_offsets.proofs.Given.{offset_all, stores_here, nodes_from, rows_from_lem, nodes_counted, rows_counted}
 use Rattle.join_offsets.proofs.join_fits.Goals as goal
-use Rattle.join_offsets.proofs.join_fits.Lts as Lts
-use Rattle.join_offsets.proofs.join_fits.Reads as Reads
-use Rattle.join_offsets.proofs.join_fits.Tie as tie
-
--- ---- Places in the code
-
-abbrev After-largest_base-base : Type 0
-After-largest_base-base = Lts.After-largest_base tie.the-claims Reads.Pre Reads.Post
-
-abbrev Start : Type 0
-Start = Lts.Start tie.the-claims Reads.Pre Reads.Post
 
 pub returns-then-not-growing : goal.returns-then-not-growing
 returns-then-not-growing c = λ S P s p.
     let e = c.if-not-growing.true in
-    sym (ap (λ (g : Bool). join_fits g S P) e ∙ join_fits_still S P (stored_fits s.stores (λ i. omega (arith, c.shared_slice_known-2-1.given i))) (stored_fits p.stores (λ i. omega (arith, c.shared_slice_known-4-1.given i))))
+    sym (ap (λ (g : Bool). join_fits g S P) e ∙ join_fits_still S P (stored_fits s.stores (λ i. omega (arith, c.type_inv.s_rows i))) (stored_fits p.stores (λ i. omega (arith, c.type_inv.p_rows i))))
 
 pub largest_base-base-requires : goal.largest_base-base-requires
 largest_base-base-requires c =
@@ -44,28 +34,18 @@ offset_bound-bound-requires c =
     let o = c.requires in
     (all_rows (forest (o.P ∷ [])), rows_from_lem (stores_here o.second.stores) (rows_counted o.second.stores))
 
--- the operands' places, and what decides: the largest last offset end of S, and the largest offset of P
-module _ (c : After-largest_base-base) (S P : Encoding) where
-  abbrev start : Start
-  start = c.before.before.before.before.before.before
+-- what decides: the largest last offset end of S, and the largest offset of P
+decides : {nodes rows : List ℕ} {growing : Bool} (S P : Encoding) → One nodes rows S → ((i : ℕ) → get_or rows i 0 ≤ most_offset) → growing ≡ true → join_fits growing S P ≡ leb (largest_base (forest (S ∷ [])) + largest largest_offset (forest (P ∷ []))) most_offset
+decides S P s small grows = ap (λ (g : Bool). join_fits g S P) grows ∙ join_fits_growing S P (stored_fits s.stores small)
 
-  module _ (s : One start.args.s_nodes.now start.args.s_rows.now S) where
-    base : c.largest_base-base.result ≡ largest_base (forest (S ∷ []))
-    base = c.largest_base-base.ensures (forest (S ∷ [])) (nodes_from (stores_here s.stores) (nodes_counted s.stores))
-
-    decides : join_fits start.args.growing S P ≡ leb (largest_base (forest (S ∷ [])) + largest largest_offset (forest (P ∷ []))) most_offset
-    decides = ap (λ (g : Bool). join_fits g S P) c.before.if-not-growing.false ∙ join_fits_growing S P (stored_fits s.stores (λ i. omega (arith, c.before.before.before.before.shared_slice_known-2-1.given i)))
-
-pub returns-then-wide-le-MOST_OFFSET : goal.returns-then-wide-le-MOST_OFFSET
-returns-then-wide-le-MOST_OFFSET c = λ S P s p.
-    let w = c.before.before in
-    let o = w.before in
-    let b = o.before.before in
-    let most = o.offset_bound-bound.ensures (all_rows (forest (P ∷ []))) (rows_from_lem (stores_here p.stores) (rows_counted p.stores)) in
+pub returns-then-base-bound-le-MOST_OFFSET : goal.returns-then-base-bound-le-MOST_OFFSET
+returns-then-base-bound-le-MOST_OFFSET c = λ S P s p.
+    let base = c.largest_base-base.ensures (forest (S ∷ [])) (nodes_from (stores_here s.stores) (nodes_counted s.stores)) in
+    let most = c.offset_bound-bound.ensures (all_rows (forest (P ∷ []))) (rows_from_lem (stores_here p.stores) (rows_counted p.stores)) in
     sym
-    (decides b S P s
+    (decides S P s (λ i. omega (arith, c.type_inv.s_rows i)) c.if-not-growing.false
     ∙ le-leb (largest_base (forest (S ∷ [])) + largest largest_offset (forest (P ∷ []))) most_offset
-    (omega (arith, most, offset_all (forest (P ∷ [])), base b S P s, o.wide.ensures, w.wide-2.ensures, c.if-wide-le-MOST_OFFSET.true)))
+    (omega (arith, most, offset_all (forest (P ∷ [])), base, c.if-base-bound-le-MOST_OFFSET.true)))
 
 pub largest_offset-offset-requires : goal.largest_offset-offset-requires
 largest_offset-offset-requires c =
@@ -74,8 +54,6 @@ largest_offset-offset-requires c =
 
 pub returns : goal.returns
 returns c = λ S P s p.
-    let w = c.before.before in
-    let o = w.before in
-    let b = o.before.before.before.before.before in
-    let offset = c.wide-4.ensures ∙ o.largest_offset-offset.ensures (all_rows (forest (P ∷ []))) (rows_from_lem (stores_here p.stores) (rows_counted p.stores)) ∙ offset_all (forest (P ∷ [])) in
-    ap₂ (λ (m n : ℕ). leb (m + n) most_offset) (w.wide-3.ensures ∙ base b S P s) offset ∙ sym (decides b S P s)
+    let base = c.largest_base-base.ensures (forest (S ∷ [])) (nodes_from (stores_here s.stores) (nodes_counted s.stores)) in
+    let offset = c.largest_offset-offset.ensures (all_rows (forest (P ∷ []))) (rows_from_lem (stores_here p.stores) (rows_counted p.stores)) ∙ offset_all (forest (P ∷ [])) in
+    ap₂ (λ (m n : ℕ). leb (m + n) most_offset) base offset ∙ sym (decides S P s (λ i. omega (arith, c.type_inv.s_rows i)) c.if-not-growing.false)
