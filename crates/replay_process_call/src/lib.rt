@@ -123,10 +123,11 @@ fn processed<'a>(
 fn fault_as(fault: [usize; 2], rest: &[u32], refusal: u32) -> u32
     ensures { FaultAs fault rest.now refusal result }
 {
-    if replay_cases::number_at(rest, 4) as usize == fault[0] {
-        if replay_cases::number_at(rest, 5) as usize == fault[1] {
-            return refusal;
-        }
+    if replay_cases::number_at(rest, 4) as usize == fault[0]
+        && replay_cases::number_at(rest, 5) as usize == fault[1]
+    {
+        refusal
+    } else {
+        NOT_STORED
     }
-    NOT_STORED
 }

@@ -32,11 +32,9 @@ fn text_read(text: &[u32], rest: &[u32], bytes: &mut [u8]) -> Outcome
     ensures { result ≡ Outcome.Same → StoredPieces (reading_of text.now).refusal (reading_of text.now).numbers
         (fault_told text.now) rest.now }
 {
-    let held = replay_bytes::text_of(text, bytes);
-    if !held.good {
+    let Some(count) = replay_bytes::text_of(text, bytes) else {
         return Outcome::Bad;
-    }
-    let count = held.count;
+    };
     let mut pieces = [BEFORE; Template::PIECES];
     let mut number = BEFORE_COUNT;
     let mut fault = [BEFORE_COUNT; 2];

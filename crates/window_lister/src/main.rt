@@ -6,22 +6,15 @@
 // standard error.
 #![tactic(auto)]
 
-ghost use Rattle.std.specs.Prelude.{◌≡◌};
+ghost use Rattle.std.specs.Prelude.{IfOk, IfSome};
 ghost use Rattle.io.specs.Counts.{IsPrefixLen};
 ghost use Rattle.listing.specs.Promises.{LineRoom, ReadyOutput};
 
-use input_lines::{Line, PIECE, Unread};
-use listing_request::{Asked, Request};
+use input_lines::{PIECE, TooLong, Unread};
+use listing_request::Request;
 
 // A line that asks for a cut has at most 34 bytes, and one that is longer than its buffer is bad.
 const LINE: usize = 64;
-
-// How many bytes wait in the output to be written, and whether a write of those before them failed.
-#[derive(Clone, Copy)]
-struct Waiting {
-    bytes: usize,
-    failed: bool,
-}
 
 fn main(rt: HostRuntime) {
     let mut piece = [0u8; PIECE];
@@ -41,54 +34,46 @@ fn list_input(
     requires { ReadyOutput out.old 0 }
 {
     let mut unread = input::start();
-    let mut waiting = waits(0);
+    let mut waiting: usize = 0;
     for _ in 0..u64::MAX {
         let next = input::next_line(rt, piece, line, unread);
         unread = next.unread;
-        if !next.found {
+        let Some(held) = next.held else {
             break;
-        }
-        waiting = answer(rt, asked(line, next), out, waiting.bytes);
-        if waiting.failed {
+        };
+        let Some(after) = answer(rt, asked(line, held), out, waiting) else {
             return;
-        }
+        };
+        waiting = after;
     }
-    finish(rt, out, waiting.bytes, unread);
-}
-
-fn waits(bytes: usize) -> Waiting
-    ensures { result.bytes ≡ bytes }
-{
-    Waiting {
-        bytes,
-        failed: false,
-    }
+    finish(rt, out, waiting, unread);
 }
 
 // What a line asks. A line longer than its buffer is bad.
-fn asked(line: &[u8], next: Line) -> Asked
-    requires { IsPrefixLen next.held line.now }
+fn asked(line: &[u8], held: Result<usize, TooLong>) -> Option<Request>
+    requires { IfOk held (λ count. IsPrefixLen count line.now) }
 {
-    if next.long {
-        return Asked::BadLine;
+    match held {
+        Ok(count) => listing_request::read_request(&line[..count]),
+        Err(_) => None,
     }
-    let held = next.held;
-    listing_request::read_request(&line[..held])
 }
 
-// Puts an answer behind what waits.
-fn answer(rt: &(impl Print + Eprint), asked: Asked, out: &mut [u8], waiting: usize) -> Waiting
+// Puts an answer behind what waits, and answers how many bytes wait then: none are left to be written once a write has failed.
+fn answer(
+    rt: &(impl Print + Eprint),
+    asked: Option<Request>,
+    out: &mut [u8],
+    waiting: usize,
+) -> Option<usize>
     requires { ReadyOutput out.old waiting }
-    ensures { ReadyOutput out.new result.bytes }
+    ensures { IfSome result (λ bytes. ReadyOutput out.new bytes) }
 {
-    let room = make_room(rt, out, waiting);
-    if room.failed {
-        return room;
-    }
-    let next = listing::write_first(asked, out, room.bytes);
+    let room = make_room(rt, out, waiting)?;
+    let next = listing::write_first(asked, out, room);
     match asked {
-        Asked::BadLine => waits(next),
-        Asked::Cut(request) => list_windows(rt, request, out, next),
+        None => Some(next),
+        Some(request) => list_windows(rt, request, out, next),
     }
 }
 
@@ -98,38 +83,36 @@ fn list_windows(
     request: Request,
     out: &mut [u8],
     waiting: usize,
-) -> Waiting
+) -> Option<usize>
     requires { ReadyOutput out.old waiting }
-    ensures { ReadyOutput out.new result.bytes }
+    ensures { IfSome result (λ bytes. ReadyOutput out.new bytes) }
 {
     let count = listing::count(request);
     let mut next: u32 = 0;
     let mut place = waiting;
+    // A while: a block has as many windows as there is room for.
     while next < count {
-        let room = make_room(rt, out, place);
-        if room.failed {
-            return room;
-        }
-        let step = listing::write_windows(request, next, out, room.bytes);
+        let room = make_room(rt, out, place)?;
+        let step = listing::write_windows(request, next, out, room);
         next = step.next;
         place = step.at;
     }
-    waits(place)
+    Some(place)
 }
 
 // The place behind what waits, once there is room for a line after it.
-fn make_room(rt: &(impl Print + Eprint), out: &[u8], waiting: usize) -> Waiting
+fn make_room(rt: &(impl Print + Eprint), out: &[u8], waiting: usize) -> Option<usize>
     requires { ReadyOutput out.now waiting }
-    ensures { LineRoom out.now result.bytes }
+    ensures { IfSome result (λ bytes. LineRoom out.now bytes) }
 {
-    if out.len() - waiting < listing::LONGEST {
-        let written = output::print(rt, &out[..waiting]);
-        return Waiting {
-            bytes: 0,
-            failed: !written.all,
-        };
+    if out.len() - waiting >= listing::LONGEST {
+        return Some(waiting);
     }
-    waits(waiting)
+    if output::print(rt, &out[..waiting]).all {
+        Some(0)
+    } else {
+        None
+    }
 }
 
 // Writes what waits once the input has ended. After a read that failed standard error has a line already.

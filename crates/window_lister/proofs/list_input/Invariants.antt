@@ -5,4 +5,4 @@ use Rattle.listing.specs.Promises.{ReadyOutput}
 use Rattle.window_lister.proofs.list_input.Given as goal
 
 abbrev pub invariant-loop : goal.invariant-loop
-invariant-loop g l = ReadyOutput l.out l.waiting.bytes × (length l.out ≡ length l.initial.out)
+invariant-loop g l = ReadyOutput l.out l.waiting × (length l.out ≡ length l.initial.out)
