@@ -1,6 +1,6 @@
 -- Document 01's starred samples, all of them, seven as document 02 changes them: one list, over the definitions that the operations promise.
 -- Assumes nothing: these are definitions. That every entry holds is `hold` of proofs/Hold.
-use Rattle.std.specs.Prelude.{◌≡◌, ℕ, ◌*◌, Bool, true, false, replicate, set}
+use Rattle.std.specs.Prelude.{◌≡◌, ℕ, ◌*◌, Bool, true, false, replicate, set, Result, Some}
 use Rattle.std.proofs.Math.Option.{Option, none as nothing, some}
 use Prim.Native.String.{String}
 use mathlib.Core.List.{List, [], ◌∷◌, ◌++◌, map, flat_map}
@@ -12,13 +12,13 @@ use Rattle.lookup_words.specs.Words.{word_to_tokens}
 use Rattle.record.specs.Flat.{row_width, node_width, flat_nodes, flat_rows}
 use Rattle.record.specs.WellFormed.{nodes_in}
 use Rattle.record.specs.Refusals.{number_of}
-use Rattle.record.specs.Outcome.{Outcome, refused, done}
+use Rattle.record.specs.declared.Refusal.{Refusal}
+use Rattle.record.specs.Outcome.{Outcome, refused, done, refusal_of}
 use Rattle.cut_plan.specs.Cut.{windows_of}
-use Rattle.pair_lengths.specs.Lengths.{pair_lengths, lengths_refusal, lengths_or}
+use Rattle.pair_lengths.specs.Lengths.{pair_lengths, lengths_or}
 use Rattle.pair_lengths.specs.declared.PairLengths.{PairLengths}
 use Rattle.cut_plan.specs.declared.Direction.TheVariants.{Left, Right}
 use Rattle.cut_lengths.specs.declared.Strategy.TheVariants.{LongestFirst}
-use Rattle.cut_lengths.specs.declared.Second.TheVariants.{Rows}
 use Rattle.cut_windows.specs.Made.{plain}
 use Rattle.truncate.specs.Truncate.{cut_outcome}
 use Rattle.join_trees.specs.Join.{join}
@@ -89,8 +89,8 @@ abbrev pub flat : Forest → List ℕ
 flat f = flat_nodes f ++ flat_rows f
 
 -- of each of a pair whether it is cut and the rows it keeps, after 0; or the number of a refusal
-abbrev pub lengths_numbers : PairLengths → List ℕ
-lengths_numbers l = lengths_refusal l ∷ lengths_or [] l
+abbrev pub lengths_numbers : Result PairLengths Refusal → List ℕ
+lengths_numbers l = refusal_of l ∷ lengths_or [] l
 
 -- ---- The list
 
@@ -147,9 +147,9 @@ abbrev pub pair_samples : List Sample
 pair_samples =
     -- "Longest first, max length 7: 10 and 10 give 3 and 4; 10 and 8 give 4 and 3; 2 and 10 give 2 and 5.": all are cut but the
     -- first of the last two (document 02)
-    sample (lengths_numbers (pair_lengths 10 (Rows 10) 7 LongestFirst)) (0 ∷ 1 ∷ 3 ∷ 1 ∷ 4 ∷ [])
-    ∷ sample (lengths_numbers (pair_lengths 10 (Rows 8) 7 LongestFirst)) (0 ∷ 1 ∷ 4 ∷ 1 ∷ 3 ∷ [])
-    ∷ sample (lengths_numbers (pair_lengths 2 (Rows 10) 7 LongestFirst)) (0 ∷ 0 ∷ 2 ∷ 1 ∷ 5 ∷ [])
+    sample (lengths_numbers (pair_lengths 10 (Some 10) 7 LongestFirst)) (0 ∷ 1 ∷ 3 ∷ 1 ∷ 4 ∷ [])
+    ∷ sample (lengths_numbers (pair_lengths 10 (Some 8) 7 LongestFirst)) (0 ∷ 1 ∷ 4 ∷ 1 ∷ 3 ∷ [])
+    ∷ sample (lengths_numbers (pair_lengths 2 (Some 10) 7 LongestFirst)) (0 ∷ 0 ∷ 2 ∷ 1 ∷ 5 ∷ [])
     ∷ []
 
 -- 0, then kind, type, id start and id length of each piece; or the refusal's number, with the number and the place of the part at fault
