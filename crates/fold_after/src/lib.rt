@@ -8,7 +8,7 @@ use join_view::View;
 use record::Spot;
 
 // The encoding in the output joined with the one whose node is lent and whose rows stand in the output too, from `at` on, by way
-// of the working store.
+// of the working store. Not `join_over` of fold_over, to which the second's rows are lent beside the output.
 pub fn join_after(
     node: &[u32],
     at: usize,
