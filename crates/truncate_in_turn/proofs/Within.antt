@@ -1,16 +1,18 @@
 -- Together the encodings of the result have at most the max length of rows.
--- Assumes nothing.
+-- Assumes maybe.none.
 use mathlib.Core.Path.{◌≡◌, refl, ap}
 use mathlib.Core.Bool.{Bool, true, false, ◌||◌, cond}
-use mathlib.Core.Option.{Option, none as nothing, some}
+use mathlib.Core.Option as maybe
 use Prim.Native.Nat.{ℕ, ◌+◌, ◌≤◌}
 use native.Mathlib.Omega.{arith}
 use mathlib.Core.List.{List, [], ◌∷◌, map}
 use lib.ListN.{length}
+use Rattle.std.specs.Prelude.{Option, Some, None, Result, Ok, Err, unwrap_or}
 use Rattle.record.specs.Tree.{Forest, none, node, Encoding, listed, forest}
 use Rattle.lists.specs.Lists.{All}
 use Rattle.record.specs.Read.{Reading, malformed, holds, one_or_two, of_one_or_two}
 use Rattle.record.specs.Outcome.{Outcome, refused, done, in_room}
+use Rattle.record.specs.declared.Refusal.{Refusal}
 use Rattle.record.specs.declared.Refusal.TheVariants.{MalformedRecord, NoRoom, Stride}
 use Rattle.cut_plan.specs.Cut.{windows_of, decision_of}
 use Rattle.cut_lengths.specs.Lengths.{kept_lengths, rows_of_second}
@@ -20,10 +22,9 @@ use Rattle.cut_lengths.specs.declared.Strategy.{Strategy}
 use Rattle.cut_plan.specs.declared.Decision.{Decision}
 use Rattle.cut_plan.specs.declared.Decision.TheVariants.{Whole, Emptied, StrideRefused, Windows}
 use Rattle.cut_lengths.specs.declared.Kept.{Kept}
-use Rattle.cut_lengths.specs.declared.Kept.TheVariants.{Refused, Alone, Both}
 use Rattle.cut_plan.proofs.Laws.{Sized, windows_sized}
 use Rattle.cut_plan.proofs.Decides.{Says, decided}
-use Rattle.cut_lengths.proofs.Sum.{KeepsRows, lengths_keep}
+use Rattle.cut_lengths.proofs.Sum.{KeepsOf, KeepsRows, lengths_keep}
 use Rattle.record_extent.specs.Size.{size_of, roomy}
 use Rattle.record_extent.proofs.Room.{room_by_size}
 use Rattle.cut_windows.specs.Made.{stretch_of, gathered}
@@ -91,13 +92,15 @@ module _ (most : ℕ) (nodes rows : List ℕ) (stride : ℕ) (d : Direction) whe
       go false e true g = tt
       go false e false g = in_room_within most nodes rows _ (omega (arith, rows_kept n stride d E e, rows_kept m stride d F g))
 
-  kept_within : (E : Encoding) (second : Option Encoding) (k : Kept) → KeepsRows (length E.rows) (rows_of_second second) most k → Within most (unless_refused (cut_kept nodes rows stride d E second) k)
-  kept_within E nothing (Refused k) h = tt
-  kept_within E nothing (Alone n) h = one_within n E (omega arith)
-  kept_within E nothing (Both n m) h = absurd h
-  kept_within E (some F) (Refused k) h = tt
-  kept_within E (some F) (Alone n) h = absurd h
-  kept_within E (some F) (Both n m) h = both_within n m E F (omega (arith, h.together))
+  kept_within : (E : Encoding) (second : maybe.Option Encoding) (k : Result Kept Refusal) → KeepsRows (length E.rows) (rows_of_second second) most k → Within most (unless_refused (cut_kept nodes rows stride d E second) k)
+  kept_within E second (Err k) h = tt
+  kept_within E second (Ok k) h = of_kept second k.second h
+    where
+      of_kept : (second : maybe.Option Encoding) (m : Option ℕ) → KeepsOf (length E.rows) (rows_of_second second) most k.first m → Within most (cut_kept nodes rows stride d E second k.first (unwrap_or m 0))
+      of_kept maybe.none None h = one_within k.first E (omega arith)
+      of_kept maybe.none (Some m) h = absurd h
+      of_kept (maybe.some F) None h = absurd h
+      of_kept (maybe.some F) (Some m) h = both_within k.first m E F (omega (arith, h.together))
 
   -- for every strategy and every batch
   pub outcome_within : (s : Strategy) (r : Reading) → Within most (truncate_pair_outcome nodes rows most stride s d r)
@@ -105,11 +108,11 @@ module _ (most : ℕ) (nodes rows : List ℕ) (stride : ℕ) (d : Direction) whe
   outcome_within s malformed = tt
   outcome_within s (holds f) = go (listed f)
     where
-      of : (E : Encoding) (second : Option Encoding) → Within most (unless_refused (cut_kept nodes rows stride d E second) (kept_lengths (length E.rows) (rows_of_second second) most s))
+      of : (E : Encoding) (second : maybe.Option Encoding) → Within most (unless_refused (cut_kept nodes rows stride d E second) (kept_lengths (length E.rows) (rows_of_second second) most s))
       of E second = kept_within E second (kept_lengths (length E.rows) (rows_of_second second) most s) (lengths_keep (length E.rows) (rows_of_second second) most s)
 
       go : (l : List Encoding) → Within most (one_or_two (refused MalformedRecord) (λ E second. unless_refused (cut_kept nodes rows stride d E second) (kept_lengths (length E.rows) (rows_of_second second) most s)) l)
       go [] = tt
-      go (E ∷ []) = of E nothing
-      go (E ∷ F ∷ []) = of E (some F)
+      go (E ∷ []) = of E maybe.none
+      go (E ∷ F ∷ []) = of E (maybe.some F)
       go (E ∷ F ∷ G ∷ l) = tt
