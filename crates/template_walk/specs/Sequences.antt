@@ -1,10 +1,10 @@
 -- Which sequences a template names: A, B or both (document 01, module 8).
 -- Assumes nothing: these are definitions.
-use Rattle.std.specs.Prelude.{Bool, true, false, ◌||◌, List, [], ◌∷◌}
+use Rattle.std.specs.Prelude.{Bool, true, false, ◌||◌, List, [], ◌∷◌, Result, Ok, Err}
 use Rattle.template_pieces.specs.Piece.{Piece, sequence_a, sequence_b, special}
 use Rattle.template_text.specs.Template.{TemplateReading, unread, reads}
-use Rattle.template_walk.specs.declared.SequencesAnswer.{SequencesAnswer}
-use Rattle.template_walk.specs.declared.SequencesAnswer.TheVariants.{Refused, Named}
+use Rattle.record.specs.declared.Refusal.{Refusal}
+use Rattle.template_walk.specs.declared.Named.{Named}
 
 abbrev pub is_a : Piece → Bool
 is_a (sequence_a _) = true
@@ -22,6 +22,6 @@ some_ok t [] = false
 some_ok t (x ∷ xs) = t x || some_ok t xs
 
 -- 8 and 19 to 21, or whether it names each
-unfoldable pub sequences_answer : TemplateReading → SequencesAnswer
-sequences_answer (unread k) = Refused k
-sequences_answer (reads pieces) = Named (some_ok is_a pieces) (some_ok is_b pieces)
+unfoldable pub sequences_answer : TemplateReading → Result Named Refusal
+sequences_answer (unread k) = Err k
+sequences_answer (reads pieces) = Ok (record { a = some_ok is_a pieces; b = some_ok is_b pieces })

@@ -1,97 +1,60 @@
 // Walks over the pieces of a template text: which sequences it names, and how many tokens it adds (document 01, module 8).
 #![tactic(auto)]
 
-ghost use Rattle.std.specs.Prelude.{◌||◌, ◌≡◌, eqb};
+ghost use Rattle.std.specs.Prelude.{◌≡◌};
 ghost use Rattle.template_find.specs.Promises.{IdsInside};
 ghost use Rattle.template_text.specs.Template.{read_template};
 ghost use Rattle.template_walk.specs.Promises.{CountedIn, IdsOf};
 ghost use Rattle.template_walk.specs.Sequences.{sequences_answer};
 
 use record::Refusal;
-use template_find::FoundEntry;
-use template_pieces::Kind;
-use template_text::PieceStep;
+use template_pieces::Name;
 
+// Whether a template names the first and the second sequence.
 #[derive(Clone, Copy)]
-pub enum CountAnswer {
-    Refused(Refusal),
-    Count(u64),
-}
-
-// Refused, or whether a template names the first and the second sequence.
-#[derive(Clone, Copy)]
-pub enum SequencesAnswer {
-    Refused(Refusal),
-    Named { a: bool, b: bool },
+pub struct Named {
+    pub a: bool,
+    pub b: bool,
 }
 
 // Whether a template names A and B. Refused with 8, then with 19 to 21 for its first part at fault.
-pub fn sequences_in(text: &[u8]) -> SequencesAnswer
+pub fn sequences_in(text: &[u8]) -> Result<Named, Refusal>
     ensures { result ≡ sequences_answer (read_template text.now) }
 {
     if !template_text::is_short(text) {
-        return SequencesAnswer::Refused(Refusal::TemplateTooLong);
+        return Err(Refusal::TemplateTooLong);
     }
     let mut a = false;
     let mut b = false;
     let mut at: usize = 0;
     loop {
-        let step = template_text::piece_from(text, at);
-        let PieceStep::Read {
-            kind,
-            type_id: _,
-            start: _,
-            length: _,
-            next,
-        } = step
-        else {
-            let PieceStep::Unreadable(fault) = step else {
-                return SequencesAnswer::Named { a, b };
-            };
-            return SequencesAnswer::Refused(Refusal::PartUnreadable(fault));
+        let Some(step) = template_text::piece_from(text, at)? else {
+            return Ok(Named { a, b });
         };
-        a = seen(a, kind, Kind::A);
-        b = seen(b, kind, Kind::B);
-        at = next;
+        match step.piece.name {
+            Name::A => a = true,
+            Name::B => b = true,
+            Name::Special { .. } => {}
+        }
+        at = step.next;
     }
 }
 
-// Whether a kind was seen before, or is this one.
-pub fn seen(before: bool, kind: u32, sought: u32) -> bool
-    ensures { result ≡ (before || eqb kind sought) }
-{
-    if before {
-        return true;
-    }
-    kind == sought
-}
-
-pub fn count_pieces(text: &[u8], entries: &[u32], added: &[u8]) -> CountAnswer
+pub fn count_pieces(text: &[u8], entries: &[u32], added: &[u8]) -> Result<u64, Refusal>
     requires { IdsInside entries.now added.now }
     ensures { CountedIn text.now entries.now added.now result }
 {
     if !template_text::is_short(text) {
-        return CountAnswer::Refused(Refusal::TemplateTooLong);
+        return Err(Refusal::TemplateTooLong);
     }
     let mut sum: u64 = 0;
     let mut at: usize = 0;
     loop {
-        let step = template_text::piece_from(text, at);
-        let PieceStep::Read {
-            kind,
-            type_id: _,
-            start,
-            length,
-            next,
-        } = step
-        else {
-            let PieceStep::Unreadable(fault) = step else {
-                return CountAnswer::Count(sum);
-            };
-            return CountAnswer::Refused(Refusal::PartUnreadable(fault));
+        let Some(coming) = template_text::piece_from(text, at)? else {
+            return Ok(sum);
         };
-        at = next;
-        if kind == Kind::SPECIAL {
+        at = coming.next;
+        if let Name::Special { start, length } = coming.piece.name {
             sum += ids_of(entries, added, &text[start..start + length]);
         }
     }
@@ -102,15 +65,9 @@ pub fn ids_of(entries: &[u32], added: &[u8], id: &[u8]) -> u64
     requires { IdsInside entries.now added.now }
     ensures { IdsOf entries.now added.now id.now result }
 {
-    let FoundEntry::At(i) = template_find::find(entries, added, id) else {
+    let Some(i) = template_find::find(entries, added, id) else {
         return 0;
     };
     let members = template_entries::members_of(entries, i);
-    wide(members.count)
-}
-
-pub fn wide(x: u32) -> u64
-    ensures { result ≡ x }
-{
-    x as u64
+    members.count as u64
 }

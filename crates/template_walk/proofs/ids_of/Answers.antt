@@ -14,12 +14,12 @@ pub returns-in_default : goal.returns-in_default
 returns-in_default c = ids_unknown _ _ _ (sym c.find.ensures ∙ c.in_default.is)
 
 pub members_of-members-requires : goal.members_of-members-requires
-members_of-members-requires c = (found_among _ _ _ (sym c.find.ensures ∙ c.in-At.is))
+members_of-members-requires c = (found_among _ _ _ (sym c.find.ensures ∙ c.in-Some.is))
 
 pub returns : goal.returns
 returns c =
-    let k = c.in-At.i in
+    let k = c.in-Some.i in
     let entries = c.args.entries.now in
-    let many : c.wide.result ≡ (members_of entries k).count = c.wide.ensures ∙ ap (λ (m : Members). m.count) c.members_of-members.ensures in
-    ids_found _ _ _ (sym c.find.ensures ∙ c.in-At.is) many
-    (omega (arith, many, ap (λ (m : Members). m.count) (members_read entries k (found_among _ _ _ (sym c.find.ensures ∙ c.in-At.is))), c.type_inv.entries (k * entry_width + 3)))
+    let many : c.members_of-members.result.count ≡ (members_of entries k).count = ap (λ (m : Members). m.count) c.members_of-members.ensures in
+    ids_found _ _ _ (sym c.find.ensures ∙ c.in-Some.is) many
+    (omega (arith, many, ap (λ (m : Members). m.count) (members_read entries k (found_among _ _ _ (sym c.find.ensures ∙ c.in-Some.is))), c.type_inv.entries (k * entry_width + 3)))

@@ -4,8 +4,8 @@ use lib.ListN.{length}
 use Rattle.template_walk.proofs.Naming.{Naming}
 use Rattle.template_walk.proofs.sequences_in.Given as goal
 
-abbrev pub invariant-loop-kind : goal.invariant-loop-kind
-invariant-loop-kind l = Naming l.text l.at l.a l.b
+abbrev pub invariant-loop-step : goal.invariant-loop-step
+invariant-loop-step l = Naming l.text l.at l.a l.b
 
-abbrev pub decreases-loop-kind : goal.decreases-loop-kind
-decreases-loop-kind l = length l.text + 1 - l.at
+abbrev pub decreases-loop-step : goal.decreases-loop-step
+decreases-loop-step l = length l.text + 1 - l.at
