@@ -1,5 +1,5 @@
 -- Both templates, by the answer of each. Assumes nothing.
-use mathlib.Core.Path.{◌≡◌}
+use mathlib.Core.Path.{◌≡◌, sym, ◌∙◌}
 use mathlib.Core.Bool.{Bool, true, false, ◌&&◌}
 use Prim.Native.Nat.{ℕ}
 use native.Mathlib.Omega.{arith}
@@ -8,21 +8,20 @@ use Rattle.record.specs.Read.{all_ok}
 use Rattle.record.specs.declared.Refusal.{Refusal}
 use Rattle.template_known.specs.Known.{known, known_answer}
 use Rattle.template_known.specs.Promises.{KnownIn, KnownBoth}
-use Rattle.template_known.specs.declared.Validity.{Validity}
-use Rattle.template_known.specs.declared.Validity.TheVariants.{Valid, Refused as Invalid}
+use Rattle.std.specs.Prelude.{Result, Ok, Err}
 
-module _ {single pair entries added : List ℕ} {answer : Validity} (first : KnownIn single entries added answer) where
-  pub both_first : {why : Refusal} → answer ≡ Invalid why → KnownBoth single pair entries added answer
+module _ {single pair entries added : List ℕ} {answer : Result (Unit {0}) Refusal} (first : KnownIn single entries added answer) where
+  pub both_first : {why : Refusal} → answer ≡ Err why → KnownBoth single pair entries added (Err why)
   unfolding known_answer
-  both_first {why} e = record { says = λ members table s p t rs rp. go (all_ok (known table) s) (all_ok (known table) p) (first.says members table s t rs) }
+  both_first {why} e = record { says = λ members table s p t rs rp. go (all_ok (known table) s) (all_ok (known table) p) (sym e ∙ first.says members table s t rs) }
     where
-      go : (a b : Bool) → answer ≡ known_answer a → answer ≡ known_answer (a && b)
+      go : (a b : Bool) → Err why ≡ known_answer a → Err why ≡ known_answer (a && b)
       go true b is = let z : ◌≡◌ {A = ℕ} 0 1 = cc in absurd (omega arith)
       go false b is = is
 
-  pub both_second : answer ≡ Valid → {answer' : Validity} → KnownIn pair entries added answer' → KnownBoth single pair entries added answer'
+  pub both_second : {u : Unit {0}} → answer ≡ Ok u → {answer' : Result (Unit {0}) Refusal} → KnownIn pair entries added answer' → KnownBoth single pair entries added answer'
   unfolding known_answer
-  both_second e {answer'} second = record { says = λ members table s p t rs rp. go (all_ok (known table) s) (all_ok (known table) p) (first.says members table s t rs) (second.says members table p t rp) }
+  both_second {u} e {answer'} second = record { says = λ members table s p t rs rp. go (all_ok (known table) s) (all_ok (known table) p) (first.says members table s t rs) (second.says members table p t rp) }
     where
       go : (a b : Bool) → answer ≡ known_answer a → answer' ≡ known_answer b → answer' ≡ known_answer (a && b)
       go true b is more = more

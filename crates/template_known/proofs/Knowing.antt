@@ -2,16 +2,13 @@
 -- with these entries. Assumes nothing.
 use mathlib.Core.Path.{◌≡◌, refl, sym, ◌∙◌, ap}
 use mathlib.Core.Bool.{Bool, true, false, ◌&&◌, and-false, and_assoc}
-use mathlib.Core.Option.{none as nothing}
 use Prim.Native.Nat.{ℕ, ◌+◌, ◌-◌, ◌/◌, ◌≤◌, ◌<◌}
 use native.Mathlib.Omega.{arith}
 use mathlib.Core.List.{List, [], ◌∷◌, ◌++◌}
 use lib.ListN.{length, get_or, take, drop}
 use borrow.Author.Count.{below_more}
 use Rattle.record.specs.Read.{all_ok}
-use Rattle.record.specs.declared.Fault.{Fault}
-use Rattle.record.specs.declared.Refusal.TheVariants.{PartUnreadable, SpecialIdUnknown}
-use Rattle.lookup_ranges.specs.First.{last_from}
+use Rattle.record.specs.declared.Refusal.TheVariants.{SpecialIdUnknown}
 use Rattle.lookup_ranges.proofs.First.{nothing_last}
 use Rattle.template_parts.specs.Parts.{parts}
 use Rattle.template_pieces.specs.Piece.{Piece, sequence_a, sequence_b, special}
@@ -25,19 +22,22 @@ use Rattle.template_entries.proofs.Entries.{entries_number}
 use Rattle.template_entries.proofs.Sound.{table_holds}
 use Rattle.template_find.proofs.Found.{missing, present}
 use Rattle.template_known.specs.Known.{known, known_answer}
-use Rattle.template_known.specs.Promises.{KnownIn}
-use Rattle.template_known.specs.declared.Validity.TheVariants.{Valid, Refused}
+use Rattle.template_known.specs.Promises.{KnownIn, SoughtAmong}
+use Rattle.std.specs.Prelude.{Some, None, Ok, Err}
+use Rattle.record.specs.declared.Refusal.{Refusal}
+use Rattle.template_pieces.specs.declared.Name.TheVariants.{Special as Named}
+use Rattle.template_pieces.specs.declared.Piece.{Piece as PieceRead}
 use Rattle.template_text.specs.Comes.{comes_at}
-use Rattle.template_text.specs.declared.PieceStep.TheVariants.{End, Unreadable, Read}
+use Rattle.template_text.specs.declared.PieceStep.{PieceStep}
 use Rattle.template_text.proofs.Coming.{Passing, comes}
 
 -- a piece that is not special is known
-module _ {text : List ℕ} {kind type start size : ℕ} where
-  pub other_known : (table : List Special) (p : Piece) → PieceIs text kind type start size p → (kind ≡ 2 → ⊥) → known table p ≡ true
+module _ {text : List ℕ} {told : PieceRead} where
+  pub other_known : (table : List Special) (p : Piece) → PieceIs text told p → ((start size : ℕ) → told.name ≡ Named start size → ⊥) → known table p ≡ true
   unfolding known
   other_known table (sequence_a t) is h = refl
   other_known table (sequence_b t) is h = refl
-  other_known table (special s id t) is h = absurd (h (sym (ap (λ (l : List ℕ). get_or l 0 0) is.numbers)))
+  other_known table (special s id t) is h = absurd (h s (length id) (sym (ap (λ (r : PieceRead). r.name) is.same)))
 
 all_ok_append : (t : Piece → Bool) (ps qs : List Piece) → all_ok t (ps ++ qs) ≡ (all_ok t ps && all_ok t qs)
 all_ok_append t [] qs = refl
@@ -61,8 +61,15 @@ module _ {entries numbers id : List ℕ} where
     pub seek_on : i < length entries / entry_width → entry_has_id numbers id (get_or (entries_in entries) i no_entry) ≡ false → Seeking entries numbers id (i + 1)
     seek_on h e = record { inside = omega arith; none_before = below_more _ i s.none_before e }
 
-    pub seek_end : i ≡ length entries / entry_width → last_from (entry_has_id numbers id) 0 (entries_in entries) ≡ nothing
-    seek_end h = nothing_last (entry_has_id numbers id) no_entry 0 (entries_in entries) (λ j l. s.none_before j (omega (arith, entries_number entries)))
+    pub seek_found : i < length entries / entry_width → entry_has_id numbers id (get_or (entries_in entries) i no_entry) ≡ true → SoughtAmong entries numbers id true
+    seek_found h e = record { has = λ _. (i, h, e); lacks = λ wrong. let z : ◌≡◌ {A = ℕ} 0 1 = cc in absurd (omega arith) }
+
+    pub seek_end : length entries / entry_width ≤ i → SoughtAmong entries numbers id false
+    seek_end h =
+        record {
+          has = λ wrong. let z : ◌≡◌ {A = ℕ} 0 1 = cc in absurd (omega arith);
+          lacks = λ _. nothing_last (entry_has_id numbers id) no_entry 0 (entries_in entries) (λ j l. s.none_before j (omega (arith, entries_number entries)));
+        }
 
 -- ---- The pieces passed
 
@@ -75,7 +82,7 @@ pub know_start : (text entries numbers : List ℕ) → Knowing text entries numb
 know_start text entries numbers = record { passed = []; walked = walked_start text; all_known = λ members table t. refl }
 
 module _ {text entries numbers : List ℕ} {at : ℕ} (k : Knowing text entries numbers at) where
-  pub know_end : comes_at text at ≡ End → KnownIn text entries numbers Valid
+  pub know_end : comes_at text at ≡ Ok None → KnownIn text entries numbers (Ok tt)
   unfolding known_answer
   know_end e =
       record {
@@ -87,25 +94,25 @@ module _ {text entries numbers : List ℕ} {at : ℕ} (k : Knowing text entries 
             rw (same, k.all_known members table t);
       }
 
-  pub know_bad : {fault : Fault} → comes_at text at ≡ Unreadable fault → KnownIn text entries numbers (Refused (PartUnreadable fault))
-  know_bad {fault} e =
+  pub know_bad : {why : Refusal} → comes_at text at ≡ Err why → KnownIn text entries numbers (Err why)
+  know_bad {why} e =
       record {
         says =
             λ members table pieces t r.
-            let none : read_parts 0 0 (parts text) ≡ unread (PartUnreadable fault) = comes k.walked e in
+            let none : read_parts 0 0 (parts text) ≡ unread why = comes k.walked e in
             let whole : read_parts 0 0 (parts text) ≡ reads pieces = template_holds text r in
             let z : ◌≡◌ {A = ℕ} 0 1 = cc in
             absurd (omega arith);
       }
 
-  module _ {kind type place long next : ℕ} (e : comes_at text at ≡ Read kind type place long next) where
-    pub know_passing : Passing text at k.passed kind type place long next
+  module _ {step : PieceStep} (e : comes_at text at ≡ Ok (Some step)) where
+    pub know_passing : Passing text at k.passed step
     know_passing = comes k.walked e
 
     abbrev piece : Piece
     piece = know_passing.piece
 
-    on : ((members : List ℕ) (table : List Special) → read_table entries members numbers ≡ sound table → known table piece ≡ true) → Knowing text entries numbers next
+    on : ((members : List ℕ) (table : List Special) → read_table entries members numbers ≡ sound table → known table piece ≡ true) → Knowing text entries numbers step.next
     on h =
         record {
           passed = k.passed ++ (piece ∷ []);
@@ -113,27 +120,28 @@ module _ {text entries numbers : List ℕ} {at : ℕ} (k : Knowing text entries 
           all_known = λ members table t. all_ok_more (known table) k.passed piece (k.all_known members table t) (h members table t);
         }
 
-    pub know_other : (kind ≡ 2 → ⊥) → Knowing text entries numbers next
+    pub know_other : ((start size : ℕ) → step.piece.name ≡ Named start size → ⊥) → Knowing text entries numbers step.next
     know_other other = on (λ members table t. other_known table piece know_passing.is other)
 
-    module _ (is_special : kind ≡ 2) where
+    module _ {place long : ℕ} (is_special : step.piece.name ≡ Named place long) where
       abbrev id : List ℕ
       id = take (place + long - place) (drop place text)
 
       -- an entry has the id
-      pub know_found : {i : ℕ} → i < length entries / entry_width → entry_has_id numbers id (get_or (entries_in entries) i no_entry) ≡ true → Knowing text entries numbers next
+      pub know_found : {found : Bool} → SoughtAmong entries numbers id found → found ≡ true → Knowing text entries numbers step.next
       unfolding known
-      know_found {i} among has =
-          on (λ members table t. rw (kind_special piece know_passing.is is_special, (present (table_holds entries members numbers t) id i among has).1))
+      know_found sought is =
+          let there = sought.has is in
+          on (λ members table t. rw (kind_special piece know_passing.is is_special, (present (table_holds entries members numbers t) id there.0 there.1 there.2).1))
 
       -- none has
-      pub know_missing : last_from (entry_has_id numbers id) 0 (entries_in entries) ≡ nothing → KnownIn text entries numbers (Refused SpecialIdUnknown)
+      pub know_missing : {found : Bool} → SoughtAmong entries numbers id found → found ≡ false → KnownIn text entries numbers (Err SpecialIdUnknown)
       unfolding known known_answer
-      know_missing none =
+      know_missing sought is =
           record {
             says =
                 λ members table pieces t q.
-                let unknown : known table piece ≡ false = rw (kind_special piece know_passing.is is_special, missing (table_holds entries members numbers t) id none) in
+                let unknown : known table piece ≡ false = rw (kind_special piece know_passing.is is_special, missing (table_holds entries members numbers t) id (sought.lacks is)) in
                 let first = walked_first know_passing.walked (template_holds text q) in
                 rw (first.1, all_ok_append (known table) (k.passed ++ (piece ∷ [])) first.0, all_ok_append (known table) k.passed (piece ∷ []), unknown, and-false);
           }

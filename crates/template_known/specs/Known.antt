@@ -1,13 +1,12 @@
 -- Whether the special ids of a template are in the table (document 01, module 8).
 -- Assumes nothing: these are definitions.
-use Rattle.std.specs.Prelude.{Bool, true, false, List}
+use Rattle.std.specs.Prelude.{Bool, true, false, List, Result, Ok, Err}
 use Rattle.std.proofs.Math.Option.{Option, none as nothing, some}
+use Rattle.record.specs.declared.Refusal.{Refusal}
 use Rattle.record.specs.declared.Refusal.TheVariants.{SpecialIdUnknown}
 use Rattle.template_pieces.specs.Piece.{Piece, sequence_a, sequence_b, special}
 use Rattle.template_entries.specs.Table.{Special}
 use Rattle.template_find.specs.Last.{last_with}
-use Rattle.template_known.specs.declared.Validity.{Validity}
-use Rattle.template_known.specs.declared.Validity.TheVariants.{Valid, Refused}
 
 abbrev pub is_there : Option Special → Bool
 is_there nothing = false
@@ -20,6 +19,6 @@ known table (sequence_b _) = true
 known table (special _ id _) = is_there (last_with id table)
 
 -- "10 special id unknown", of either template
-unfoldable pub known_answer : Bool → Validity
-known_answer true = Valid
-known_answer false = Refused SpecialIdUnknown
+unfoldable pub known_answer : Bool → Result (Unit {0}) Refusal
+known_answer true = Ok tt
+known_answer false = Err SpecialIdUnknown
