@@ -2,12 +2,9 @@
 // numbers, which a refusal leaves as they were. include/noddrefyr.h is made from this file too.
 #![tactic(auto)]
 
-ghost use Rattle.std.specs.Prelude.{◌≡◌};
 ghost use Rattle.c_crossing.specs.Options.{strategy_of};
 ghost use Rattle.c_lengths.specs.Pair.{second_of, CrossesWithin};
-ghost use Rattle.pair_lengths.specs.Lengths.{mark_of};
 
-use cut_lengths::Second;
 use pair_lengths::PairLengths;
 
 // How many rows an encoding of first_rows rows and, if has_second, one of second_rows keep, so that they have at most max_length
@@ -25,36 +22,22 @@ pub extern "C" fn noddrefyr_pair_lengths(
     ensures { CrossesWithin kept.old first_rows (second_of has_second second_rows) max_length
         (strategy_of strategy) result kept.new }
 {
-    let second = second_of(has_second, second_rows);
+    let second = has_second.then_some(second_rows);
     let chosen = c_crossing::strategy_of(strategy);
-    let lengths = pair_lengths::pair_lengths(first_rows, second, max_length, chosen);
-    match lengths {
-        PairLengths::Refused(k) => k.number(),
-        PairLengths::Alone(first) => {
-            *kept = [mark(first.cut), first.kept, 0, 0];
-            0
-        }
-        PairLengths::Both(first, other) => {
-            *kept = [mark(first.cut), first.kept, mark(other.cut), other.kept];
-            0
-        }
-    }
-}
-
-// The row count of the second, if there is one.
-fn second_of(has_second: bool, rows: u32) -> Second
-    ensures { result ≡ second_of has_second rows }
-{
-    if has_second {
-        Second::Rows(rows)
-    } else {
-        Second::Missing
-    }
-}
-
-// Whether something is so, as a number.
-fn mark(so: bool) -> u32
-    ensures { result ≡ mark_of so }
-{
-    if so { 1 } else { 0 }
+    let told = match pair_lengths::pair_lengths(first_rows, second, max_length, chosen) {
+        Err(k) => Err(k),
+        Ok(
+            PairLengths {
+                first,
+                second: None,
+            },
+        ) => { Ok([first.cut as u32, first.kept, 0, 0]) }
+        Ok(
+            PairLengths {
+                first,
+                second: Some(other),
+            },
+        ) => { Ok([first.cut as u32, first.kept, other.cut as u32, other.kept]) }
+    };
+    c_crossing::cross(told, kept)
 }
