@@ -5,9 +5,6 @@ use Rattle.record.proofs.Here.{here_nodes_fit}
 use Rattle.fold_step.proofs.Steps.{here_bare, step_asks_append}
 use Rattle.fold_step.proofs.fold_step.Goals as goal
 
-pub bounds-out_nodes-1 : goal.bounds-out_nodes-1
-bounds-out_nodes-1 c = omega (arith, here_nodes_fit c.requires.here_s)
-
 pub overflow_add-i : goal.overflow_add-i
 overflow_add-i c = omega (arith, here_nodes_fit c.requires.here_p)
 
@@ -22,29 +19,5 @@ append_node-requires c =
     let a = c.requires in
     step_asks_append a (here_bare a.here_s c.if-out_nodes-eq0.true) (here_bare a.here_p c.if-nodes-i-eq0.true)
 
-pub shape_of-out_nodes-then-nodes-i-eq0 : goal.shape_of-out_nodes-then-nodes-i-eq0
-shape_of-out_nodes-then-nodes-i-eq0 c = c.append_node.auto.out_nodes
-
-pub shape_of-out_rows-then-nodes-i-eq0 : goal.shape_of-out_rows-then-nodes-i-eq0
-shape_of-out_rows-then-nodes-i-eq0 c = c.append_node.auto.out_rows
-
 pub returns-then-nodes-i-eq0 : goal.returns-then-nodes-i-eq0
 returns-then-nodes-i-eq0 c = λ S P s p. c.append_node.ensures S P s (here_bare s c.if-out_nodes-eq0.true) p (here_bare p c.if-nodes-i-eq0.true)
-
-pub join_over-requires : goal.join_over-requires
-join_over-requires c = c.requires
-
-pub shape_of-out_nodes : goal.shape_of-out_nodes
-shape_of-out_nodes c = c.join_over.auto.out_nodes
-
-pub shape_of-out_rows : goal.shape_of-out_rows
-shape_of-out_rows c = c.join_over.auto.out_rows
-
-pub shape_of-working_nodes : goal.shape_of-working_nodes
-shape_of-working_nodes c = c.join_over.auto.working_nodes
-
-pub shape_of-working_rows : goal.shape_of-working_rows
-shape_of-working_rows c = c.join_over.auto.working_rows
-
-pub returns : goal.returns
-returns c = c.join_over.ensures
