@@ -9,10 +9,7 @@ ghost use Rattle.chars_text.specs.Promises.{width_by, low_by, high_by};
 pub fn is_tail(byte: u8) -> bool
     ensures { result ≡ tail byte }
 {
-    if byte < 0x80 {
-        return false;
-    }
-    byte <= 0xBF
+    0x80 <= byte && byte <= 0xBF
 }
 
 // How many bytes a character has that begins with this byte; 0 if none does.
@@ -41,26 +38,22 @@ fn width(first: u8) -> usize
 fn low(first: u8) -> u8
     ensures { result ≡ low_by first }
 {
-    if first == 0xE0 {
-        return 0xA0;
+    match first {
+        0xE0 => 0xA0,
+        0xF0 => 0x90,
+        _ => 0x80,
     }
-    if first == 0xF0 {
-        return 0x90;
-    }
-    0x80
 }
 
 // The greatest second byte. A larger one would write a surrogate, or a number above 0x10FFFF.
 fn high(first: u8) -> u8
     ensures { result ≡ high_by first }
 {
-    if first == 0xED {
-        return 0x9F;
+    match first {
+        0xED => 0x9F,
+        0xF4 => 0x8F,
+        _ => 0xBF,
     }
-    if first == 0xF4 {
-        return 0x8F;
-    }
-    0xBF
 }
 
 // Whether the bytes after the second of a character of this size are tails.
@@ -68,20 +61,15 @@ fn tails(text: &[u8], at: usize, size: usize) -> bool
     requires { (2 ≤ size) × (size ≤ 4) × (at + size ≤ length text.now) }
     ensures { result ≡ begins (replicate (size - 2) tail) (drop (at + 2) text.now) }
 {
-    if size == 2 {
-        return true;
+    match size {
+        2 => true,
+        3 => is_tail(text[at + 2]),
+        _ => is_tail(text[at + 2]) && is_tail(text[at + 3]),
     }
-    let third = is_tail(text[at + 2]);
-    if size == 3 {
-        return third;
-    }
-    if third {
-        return is_tail(text[at + 3]);
-    }
-    false
 }
 
-// How many bytes the character at a place has; 0 if there is none.
+// How many bytes the character at a place has; 0 if there is none. A number and no Option: it is `character` of specs/, and no
+// character has 0 bytes.
 pub fn character_at(text: &[u8], at: usize) -> usize
     requires { at < length text.now }
     ensures { result ≡ character (drop at text.now) }

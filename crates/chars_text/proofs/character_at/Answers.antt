@@ -1,7 +1,6 @@
 -- `character_at` meets its contract: each test on the way is one of the character's width, its second byte, its tails.
 -- Assumes nothing.
-use native.Mathlib.Omega.{arith}
-use Rattle.chars_text.proofs.Sized.{Longer, ends_one, ends_none, longer, ends_cut, ends_under, ends_over, ends_whole, ends_broken}
+use Rattle.chars_text.proofs.Sized.{Longer, ends_one, ends_none, ends_cut, ends_under, ends_over, ends_whole, ends_broken}
 use borrow.Author.Rules.{rules}
 use Rattle.chars_text.proofs.character_at.Goals as goal
 use Rattle.chars_text.proofs.character_at.Lts as Lts
@@ -28,9 +27,6 @@ returns-then-size-eq0 c =
 pub returns-then-text-at : goal.returns-then-text-at
 returns-then-text-at c = ends_cut (seen c.before.before) c.if-text-at.true
 
-pub bounds-text-at-2 : goal.bounds-text-at-2
-bounds-text-at-2 c = omega (arith, (longer (seen c.before.before.before)).0)
-
 pub returns-then-second-low : goal.returns-then-second-low
 returns-then-second-low c = let fits = c.before.before.before.before in ends_under (seen fits.before) fits.if-text-at.false c.low.ensures c.if-second-low.true
 
@@ -39,12 +35,6 @@ returns-then-high-second c =
     let low = c.before.before.before.before in
     let fits = low.before.before in
     ends_over (seen fits.before) fits.if-text-at.false low.low.ensures c.high.ensures c.if-high-second.true
-
-pub tails-requires : goal.tails-requires
-tails-requires c =
-    let fits = c.before.before.before.before.before.before in
-    let size = longer (seen fits.before) in
-    (size.0, size.1, omega arith)
 
 pub returns-then-tails : goal.returns-then-tails
 returns-then-tails c =

@@ -3,10 +3,10 @@ use borrow.Author.Tests.{lt-leb, le-leb}
 use Rattle.chars_text.specs.Utf8.{octets}
 use Rattle.chars_text.proofs.is_tail.Goals as goal
 
-pub returns-then-byte-lt128 : goal.returns-then-byte-lt128
+pub returns-then-byte-ge128 : goal.returns-then-byte-ge128
 unfolding octets
-returns-then-byte-lt128 c = simp (lt-leb _ _ c.if-byte-lt128.true)
+returns-then-byte-ge128 c = simp (le-leb _ _ c.if-byte-ge128.true)
 
-pub returns : goal.returns
+pub returns-else-byte-ge128 : goal.returns-else-byte-ge128
 unfolding octets
-returns c = simp (le-leb _ _ c.if-byte-lt128.false)
+returns-else-byte-ge128 c = simp (lt-leb _ _ c.if-byte-ge128.false)
