@@ -1,8 +1,8 @@
 -- Filling the table for the way back, and what it says of any character. Assumes nothing.
 use mathlib.Core.Path.{◌≡◌, ap, sym, ◌∙◌}
 use mathlib.Core.Logic.{⊎_elim}
-use Prim.Native.Nat.{ℕ, ◌+◌, ◌-◌, ◌*◌, ◌≤◌, ◌<◌}
-use native.Mathlib.Nat.{zero-mul, suc-mul, mul-le-mul_right}
+use Prim.Native.Nat.{ℕ, ◌+◌, ◌*◌, ◌/◌, ◌≤◌, ◌<◌}
+use native.Mathlib.Nat.{zero-mul, suc-mul, le-div_iff_mul-le}
 use native.Mathlib.Numerals.{add-one}
 use native.Mathlib.Omega.{arith}
 use mathlib.Core.List.{List}
@@ -34,43 +34,41 @@ mark_next {text} {place} {count} m more next h e =
     }
 
 -- The entries up to k are marks, and the last is at this place.
-pub record BackFilling (text table : List ℕ) (block total k at left : ℕ) : Type 0 where
+pub record BackFilling (text table : List ℕ) (block k at : ℕ) : Type 0 where
   pub room : length table ≡ places_most
-  pub rest : k * block + left ≡ total
   pub last : Marked text (record { place = at; count = k * block })
   pub entries : (j : ℕ) → j ≤ k → Marked text (record { place = get_or table j 0; count = j * block })
 
-pub back_start : (text table : List ℕ) (block total : ℕ) → length table ≡ places_most → BackFilling text (set table 0 0) block total 0 0 total
-back_start text table block total room =
+pub back_start : (text table : List ℕ) (block : ℕ) → length table ≡ places_most → BackFilling text (set table 0 0) block 0 0
+back_start text table block room =
     let first : Marked text (record { place = 0; count = 0 * block }) = rw (zero-mul block) (marked_start text) in
     record {
       room = length-set table 0 0 ∙ room;
-      rest = omega (arith, zero-mul block);
       last = first;
       entries = λ j h.
           let none : j ≡ 0 = omega arith in
           rw (none, get_or-set_same table 0 0 0 (omega (arith, room))) first;
     }
 
-module _ {text table : List ℕ} {block total k at left : ℕ} (f : BackFilling text table block total k at left) (all : total ≡ starts text) where
-  more_few : block ≤ left → (k + 1) * block ≤ starts text
-  more_few h = omega (arith, f.rest, all, ap (λ (n : ℕ). n * block) (add-one k), suc-mul k block)
+module _ {text table : List ℕ} {block total k at : ℕ} (f : BackFilling text table block k at) (all : total ≡ starts text) (some : 0 < block) where
+  sum : k * block + block ≡ (k + 1) * block
+  sum = rw (add-one, suc-mul k block)
 
-  pub back_few : {grain : Grain} → Grained (length text) grain → grain.block ≡ block → block ≤ left → k + 1 < places_most
-  back_few g e h = block_few g (k + 1) (rw e (omega (arith, more_few h, starts_few text)))
+  more_few : k < total / block → k * block + block ≤ starts text
+  more_few h = omega (arith, all, sum, (le-div_iff_mul-le {k = block} {x = k + 1} {y = total} some).0 (omega arith))
+
+  pub back_few : {grain : Grain} → Grained (length text) grain → grain.block ≡ block → k < total / block → k + 1 < places_most
+  back_few g e h = block_few g (k + 1) (rw e (omega (arith, sum, more_few h, starts_few text)))
 
   -- the place that is found
-  pub back_mark : (next : ℕ) → block ≤ left → next ≡ at + nth_start block (drop at text) → Marked text (record { place = next; count = (k + 1) * block })
-  back_mark next h e =
-      let sum : k * block + block ≡ (k + 1) * block = rw (add-one, suc-mul k block) in
-      rw (← sum) (mark_next f.last block next (omega (arith, f.rest, all, h)) e)
+  pub back_mark : (next : ℕ) → k < total / block → next ≡ at + nth_start block (drop at text) → Marked text (record { place = next; count = (k + 1) * block })
+  back_mark next h e = rw (← sum) (mark_next f.last block next (more_few h) e)
 
-  pub back_next : (next : ℕ) → block ≤ left → next ≡ at + nth_start block (drop at text) → k + 1 < places_most
-      → BackFilling text (set table (k + 1) next) block total (k + 1) next (left - block)
+  pub back_next : (next : ℕ) → k < total / block → next ≡ at + nth_start block (drop at text) → k + 1 < places_most
+      → BackFilling text (set table (k + 1) next) block (k + 1) next
   back_next next h e few =
       record {
         room = length-set table (k + 1) next ∙ f.room;
-        rest = omega (arith, f.rest, ap (λ (n : ℕ). n * block) (add-one k), suc-mul k block, h);
         last = back_mark next h e;
         entries = λ j le.
             ⊎_elim
@@ -81,16 +79,12 @@ module _ {text table : List ℕ} {block total k at left : ℕ} (f : BackFilling 
             (either (k + 1) j);
       }
 
-  pub back_end : {grain : Grain} → Grained (length text) grain → grain.block ≡ block → left < block → BackTabled text table grain
+  pub back_end : {grain : Grain} → Grained (length text) grain → grain.block ≡ block → total / block ≤ k → BackTabled text table grain
   back_end {grain} g e h =
       record {
         room = f.room;
         grained = g;
         entries = λ j few.
-            let last : j ≤ k
-            = ⊎_elim
-            (λ (past : k + 1 ≤ j). absurd (omega (arith, mul-le-mul_right block past, ap (λ (n : ℕ). n * block) (add-one k), suc-mul k block, f.rest, all, rw e at few, h)))
-            (λ (there : j < k + 1). omega arith)
-            (either (k + 1) j) in
-            rw e (f.entries j last);
+            let last : j ≤ total / block = (le-div_iff_mul-le {k = block} {x = j} {y = total} some).1 (rw (← e, all) few) in
+            rw e (f.entries j (omega arith));
       }

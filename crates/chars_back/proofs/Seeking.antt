@@ -55,5 +55,5 @@ module _ {text : List ℕ} {from count at left : ℕ} (s : Seeking text from cou
       let stop : nth_start left (drop at text) ≡ 0 = rw (drop-cons text at 0 h) (nth_stop left (get_or text at 0) (drop (suc at) text) (omega (arith, e, lt))) in
       omega (arith, s.same, stop)
 
-  pub seeking_end : length text ≤ at → at ≡ from + nth_start count (drop from text)
-  seeking_end h = omega (arith, s.same, nth_past left (drop at text) (omega (arith, length-drop at text)), length-drop at text)
+  pub seeking_end : length text ≤ at → length text ≡ from + nth_start count (drop from text)
+  seeking_end h = omega (arith, s.same, s.inside, nth_past left (drop at text) (omega (arith, length-drop at text)), length-drop at text)

@@ -15,17 +15,15 @@ fn step_on(text: &[u8], from: usize, count: usize) -> usize
     requires { from ≤ length text.now }
     ensures { result ≡ from + nth_start count (drop from text.now) }
 {
-    let mut at = from;
     let mut left = count;
-    while at < text.len() {
-        let here = chars_count::wide(chars_count::start(text[at]));
+    for at in from..text.len() {
+        let here = chars_count::start(text[at]) as usize;
         if left < here {
             return at;
         }
         left -= here;
-        at += 1;
     }
-    at
+    text.len()
 }
 
 // The same, for many characters: the place is at least as many bytes on, and what then is left is looked for in the same way.
@@ -35,6 +33,7 @@ pub fn nth_start(text: &[u8], from: usize, count: usize) -> usize
 {
     let mut at = from;
     let mut left = count;
+    // A while: a step goes over as many bytes as characters are left.
     while MANY <= left {
         if text.len() - at < left {
             return text.len();
@@ -54,13 +53,9 @@ pub fn fill_back(text: &[u8], grain: Grain, total: usize, table: &mut [u32; PLAC
 {
     let block = grain.block;
     table[0] = 0;
-    let mut k = 0;
     let mut at = 0;
-    let mut left = total;
-    while block <= left {
+    for k in 0..total / block {
         at = nth_start(text, at, block);
-        left -= block;
-        k += 1;
-        table[k] = at as u32;
+        table[k + 1] = at as u32;
     }
 }

@@ -18,12 +18,10 @@ fn count_longs(block: &[u8]) -> u8
     ensures { result ≡ longs block.now }
 {
     let mut count: u8 = 0;
-    let mut i = 0;
-    while i < block.len() {
-        if 0x80 <= block[i] {
+    for byte in block {
+        if 0x80 <= *byte {
             count += 1;
         }
-        i += 1;
     }
     count
 }
@@ -34,6 +32,7 @@ fn walk(text: &[u8], from: usize, to: usize) -> usize
     ensures { Walked text.now from to result }
 {
     let mut at = from;
+    // A while: a step is as wide as the character that it passes.
     while at < to {
         let size = chars_text::character_at(text, at);
         if size == 0 {
@@ -49,14 +48,12 @@ fn skip_plain(text: &[u8], from: usize, to: usize) -> usize
     requires { (from ≤ to) × (to ≤ length text.now) }
     ensures { PlainSkipped text.now from to result }
 {
-    let mut at = from;
-    while at < to {
+    for at in from..to {
         if 0x80 <= text[at] {
             return at;
         }
-        at += 1;
     }
-    at
+    to
 }
 
 // The place after a block's first longer character; the same place if that is not well-formed.
@@ -101,6 +98,7 @@ pub fn well_formed(text: &[u8]) -> bool
     ensures { result ≡ well_formed text.now }
 {
     let mut at = 0;
+    // A while: a step goes over a block and the rest of its last character, or over its first longer one.
     while BLOCK <= text.len() - at {
         let next = pass_block(text, at);
         if next == at {

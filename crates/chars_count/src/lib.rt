@@ -12,13 +12,10 @@ pub const BLOCK: usize = 64;
 pub fn start(byte: u8) -> u8
     ensures { result ≡ start_of byte }
 {
-    if byte < 0x80 {
-        return 1;
+    match byte {
+        0x80..=0xBF => 0,
+        _ => 1,
     }
-    if 0xBF < byte {
-        return 1;
-    }
-    0
 }
 
 // How many bytes of a block are no tails.
@@ -27,19 +24,10 @@ pub fn count_block(block: &[u8]) -> u8
     ensures { result ≡ starts block.now }
 {
     let mut count: u8 = 0;
-    let mut i = 0;
-    while i < block.len() {
-        count += start(block[i]);
-        i += 1;
+    for byte in block {
+        count += start(*byte);
     }
     count
-}
-
-// A count as a length. A cast of it asks that it fits; this asks nothing.
-pub fn wide(count: u8) -> usize
-    ensures { result ≡ count }
-{
-    count as usize
 }
 
 // How many bytes are no tails, from one place of a text up to another: of whole blocks, whose size the compiler knows, and of the rest.
@@ -48,11 +36,10 @@ pub fn count_starts(text: &[u8], from: usize, to: usize) -> usize
     ensures { result ≡ starts (take (to - from) (drop from text.now)) }
 {
     let mut count: usize = 0;
-    let mut at = from;
-    while BLOCK <= to - at {
-        let end = at + BLOCK;
-        count += wide(count_block(&text[at..end]));
-        at = end;
+    let blocks = (to - from) / BLOCK;
+    for k in 0..blocks {
+        let at = from + k * BLOCK;
+        count += count_block(&text[at..at + BLOCK]) as usize;
     }
-    count + wide(count_block(&text[at..to]))
+    count + count_block(&text[from + blocks * BLOCK..to]) as usize
 }

@@ -16,10 +16,7 @@ const NEAR: usize = 64;
 pub fn far(last: usize, next: usize) -> bool
     ensures { result ≡ false → last ≤ next }
 {
-    if next < last {
-        return true;
-    }
-    NEAR < next - last
+    next < last || NEAR < next - last
 }
 
 // How many characters there are before a place.

@@ -2,7 +2,7 @@
 use mathlib.Core.Path.{◌≡◌, refl, ap, sym, ◌∙◌}
 use mathlib.Core.Logic.{⊎_elim}
 use Prim.Native.Nat.{ℕ, ◌+◌, ◌-◌, ◌*◌, ◌/◌, ◌^◌, ◌≤◌, ◌<◌}
-use native.Mathlib.Nat.{zero-mul, suc-mul, mul-le-mul_right}
+use native.Mathlib.Nat.{zero-mul, suc-mul, le-div_iff_mul-le}
 use native.Mathlib.Numerals.{add-one}
 use native.Mathlib.Omega.{arith}
 use mathlib.Core.List.{List}
@@ -13,57 +13,56 @@ use Rattle.chars_text.specs.Characters.{starts}
 use Rattle.chars_text.proofs.Starts.{starts_on, starts_few}
 use Rattle.chars_places.specs.declared.Grain.{Grain}
 use Rattle.chars_places.specs.Promises.{places_most, Grained, Marked, Tabled}
-use Rattle.chars_places.proofs.Grains.{block_few, block_before}
+use Rattle.chars_places.proofs.Grains.{block_some, block_few, block_before}
 
 -- ---- Filled
 
 -- The entries up to k are right, and the count is that of the last.
-pub record Filling (text table : List ℕ) (block k at count : ℕ) : Type 0 where
+pub record Filling (text table : List ℕ) (block k count : ℕ) : Type 0 where
   pub room : length table ≡ places_most
-  pub place : at ≡ k * block
-  pub inside : at ≤ length text
-  pub counted : count ≡ starts (take at text)
+  pub counted : count ≡ starts (take (k * block) text)
   pub entries : (j : ℕ) → j ≤ k → get_or table j 0 ≡ starts (take (j * block) text)
 
-pub filling_start : (text table : List ℕ) (block : ℕ) → length table ≡ places_most → Filling text (set table 0 0) block 0 0 0
+pub filling_start : (text table : List ℕ) (block : ℕ) → length table ≡ places_most → Filling text (set table 0 0) block 0 0
 unfolding starts
 filling_start text table block room =
     record {
       room = length-set table 0 0 ∙ room;
-      place = sym (zero-mul block);
-      inside = omega arith;
-      counted = refl;
+      counted = rw zero-mul refl;
       entries = λ j h.
           let none : j ≡ 0 = omega arith in
           rw (none, zero-mul block) (get_or-set_same table 0 0 0 (omega arith));
     }
 
-module _ {text table : List ℕ} {block k at count : ℕ} (f : Filling text table block k at count) where
-  next_place : at + block ≡ (k + 1) * block
-  next_place = rw (add-one, suc-mul k block, f.place)
+-- a block after k others is one of the text, if so many fit in it
+pub block_inside : (text : List ℕ) {block k : ℕ} → 0 < block → k < length text / block → k * block + block ≤ length text
+block_inside text {block} {k} some h =
+    omega (arith, (le-div_iff_mul-le {k = block} {x = k + 1} {y = length text} some).0 (omega arith), ap (λ (n : ℕ). n * block) (add-one k), suc-mul k block)
 
-  pub filling_few : {grain : Grain} → Grained (length text) grain → grain.block ≡ block → at + block ≤ length text → k + 1 < places_most
+module _ {text table : List ℕ} {block k count : ℕ} (f : Filling text table block k count) where
+  next_place : k * block + block ≡ (k + 1) * block
+  next_place = rw (add-one, suc-mul k block)
+
+  pub filling_few : {grain : Grain} → Grained (length text) grain → grain.block ≡ block → k * block + block ≤ length text → k + 1 < places_most
   filling_few g e h = block_few g (k + 1) (rw (e, ← next_place) h)
 
-  module _ (more : ℕ) (is : more ≡ starts (take (at + block - at) (drop at text))) (fits : at + block ≤ length text) where
-    filling_count : count + more ≡ starts (take (at + block) text)
+  module _ (more : ℕ) (is : more ≡ starts (take (k * block + block - k * block) (drop (k * block) text))) (fits : k * block + block ≤ length text) where
+    filling_count : count + more ≡ starts (take (k * block + block) text)
     filling_count =
-        let size : at + block - at ≡ block = omega arith in
+        let size : k * block + block - k * block ≡ block = omega arith in
         ap (λ (n : ℕ). n + more) f.counted
-        ∙ ap (◌+◌ (starts (take at text))) (is ∙ ap (λ (n : ℕ). starts (take n (drop at text))) size)
-        ∙ sym (starts_on text at block)
+        ∙ ap (◌+◌ (starts (take (k * block) text))) (is ∙ ap (λ (n : ℕ). starts (take n (drop (k * block) text))) size)
+        ∙ sym (starts_on text (k * block) block)
 
     -- the count is no more than the bytes
     pub filling_fits : count + more ≤ length text
-    filling_fits = omega (arith, filling_count, starts_few (take (at + block) text), length-take (at + block) text)
+    filling_fits = omega (arith, filling_count, starts_few (take (k * block + block) text), length-take (k * block + block) text)
 
-    pub filling_next : k + 1 < places_most → Filling text (set table (k + 1) (count + more)) block (k + 1) (at + block) (count + more)
+    pub filling_next : k + 1 < places_most → Filling text (set table (k + 1) (count + more)) block (k + 1) (count + more)
     filling_next few =
         record {
           room = length-set table (k + 1) (count + more) ∙ f.room;
-          place = next_place;
-          inside = fits;
-          counted = filling_count;
+          counted = filling_count ∙ ap (λ (n : ℕ). starts (take n text)) next_place;
           entries = λ j h.
               ⊎_elim
               (λ (last : k + 1 ≤ j).
@@ -73,18 +72,15 @@ module _ {text table : List ℕ} {block k at count : ℕ} (f : Filling text tabl
               (either (k + 1) j);
         }
 
-  pub filling_end : {grain : Grain} → Grained (length text) grain → grain.block ≡ block → length text - at < block → Tabled text table grain
+  pub filling_end : {grain : Grain} → Grained (length text) grain → grain.block ≡ block → length text / block ≤ k → Tabled text table grain
   filling_end {grain} g e h =
       record {
         room = f.room;
         grained = g;
         entries = λ j inside.
-            let last : j ≤ k
-            = ⊎_elim
-            (λ (past : k + 1 ≤ j). absurd (omega (arith, mul-le-mul_right block past, next_place, rw e at inside, h, f.inside)))
-            (λ (there : j < k + 1). omega arith)
-            (either (k + 1) j) in
-            rw e (f.entries j last);
+            let some : 0 < block = rw (← e) (block_some g) in
+            let last : j ≤ length text / block = (le-div_iff_mul-le {k = block} {x = j} {y = length text} some).1 (rw (← e) inside) in
+            rw e (f.entries j (omega arith));
       }
 
 -- ---- Used

@@ -47,14 +47,10 @@ pub fn fill_places(text: &[u8], grain: Grain, table: &mut [u32; PLACES])
 {
     let block = grain.block;
     table[0] = 0;
-    let mut k = 0;
-    let mut at = 0;
     let mut count: usize = 0;
-    while block <= text.len() - at {
-        let next = at + block;
-        count += chars_count::count_starts(text, at, next);
-        at = next;
-        k += 1;
-        table[k] = count as u32;
+    for k in 0..text.len() / block {
+        let at = k * block;
+        count += chars_count::count_starts(text, at, at + block);
+        table[k + 1] = count as u32;
     }
 }

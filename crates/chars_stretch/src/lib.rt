@@ -30,17 +30,15 @@ fn starts_up_to(text: &[u8], from: usize) -> usize
     ensures { StartsUpTo text.now from result }
 {
     let mut to = from;
-    let mut left = PARTS;
-    while 0 < left {
+    for _ in 0..PARTS {
         if text.len() - to < PART {
             return to;
         }
         let end = to + PART;
-        if chars_count::wide(chars_count::count_block(&text[to..end])) < PART {
+        if (chars_count::count_block(&text[to..end]) as usize) < PART {
             return to;
         }
         to = end;
-        left -= 1;
     }
     to
 }

@@ -5,8 +5,5 @@ use lib.ListN.{length}
 use Rattle.chars_check.proofs.Longs.{Counting}
 use Rattle.chars_check.proofs.count_longs.Given as goal
 
-abbrev pub invariant-loop-i : goal.invariant-loop-i
-invariant-loop-i l = Counting l.block l.i l.count
-
-abbrev pub decreases-loop-i : goal.decreases-loop-i
-decreases-loop-i l = length l.block - l.i
+abbrev pub invariant-loop-byte : goal.invariant-loop-byte
+invariant-loop-byte l = Counting l.block l.byte-index l.count

@@ -5,6 +5,3 @@ use Rattle.chars_check.proofs.skip_plain.Given as goal
 
 abbrev pub invariant-loop-at : goal.invariant-loop-at
 invariant-loop-at l = PlainSkipped l.text l.from l.to l.at
-
-abbrev pub decreases-loop-at : goal.decreases-loop-at
-decreases-loop-at l = l.to - l.at

@@ -1,12 +1,7 @@
 -- `count_block` meets its contract. The loop's invariant, `Counting`: the count and what is left to count are all.
 -- Assumes nothing.
-use Prim.Native.Nat.{◌-◌}
-use lib.ListN.{length}
 use Rattle.chars_count.proofs.Counting.{Counting}
 use Rattle.chars_count.proofs.count_block.Given as goal
 
-abbrev pub invariant-loop-i : goal.invariant-loop-i
-invariant-loop-i l = Counting l.block l.i l.count
-
-abbrev pub decreases-loop-i : goal.decreases-loop-i
-decreases-loop-i l = length l.block - l.i
+abbrev pub invariant-loop-byte : goal.invariant-loop-byte
+invariant-loop-byte l = Counting l.block l.byte-index l.count

@@ -1,4 +1,5 @@
 -- `chars_from` meets its contract: what is counted up to a mark, and on from there. Assumes nothing.
+use mathlib.Core.Path.{refl}
 use Prim.Native.Nat.{◌≤◌}
 use Rattle.chars_places.specs.Promises.{Marked}
 use Rattle.chars_places.proofs.Grains.{block_before, block_inside}
@@ -20,7 +21,7 @@ from_mark : (c : Joined-far) → Marked c.args.text.now (record { place = c.if-f
 from_mark c =
     elim c.if-far.branch [
       | Lts.then-far w ↦ (
-        rw (w.from-is, w.count-is) (table_mark c.requires.1 c.args.place c.requires.0 _ w.wide-count.ensures),
+        rw (w.from-is, w.count-is) (table_mark c.requires.1 c.args.place c.requires.0 _ refl),
         rw w.from-is (block_before c.requires.1.grained c.args.place),
       )
       | Lts.else-far w ↦ (rw (w.from-is, w.count-is) c.requires.2, rw w.from-is (c.far.ensures w.if-far.false))

@@ -1,4 +1,5 @@
 -- `place_from` meets its contract: what is looked for from a mark on is what is looked for in the text. Assumes nothing.
+use mathlib.Core.Path.{refl}
 use Prim.Native.Nat.{◌≤◌}
 use Rattle.chars_places.specs.Promises.{Marked}
 use Rattle.chars_near.proofs.Marks.{found_on, back_before, back_inside, back_mark}
@@ -18,7 +19,7 @@ from_mark : (c : Joined-far) → Marked c.args.text.now (record { place = c.if-f
 from_mark c =
     elim c.if-far.branch [
       | Lts.then-far w ↦ (
-        rw (w.from-is, w.passed-is) (back_mark c.requires.1 c.args.count c.requires.0 _ w.wide-from.ensures),
+        rw (w.from-is, w.passed-is) (back_mark c.requires.1 c.args.count c.requires.0 _ refl),
         rw w.passed-is (back_before c.requires.1 c.args.count c.requires.0),
       )
       | Lts.else-far w ↦ (rw (w.from-is, w.passed-is) c.requires.2, rw w.passed-is (c.far.ensures w.if-far.false))

@@ -2,8 +2,5 @@
 use Rattle.chars_stretch.specs.Promises.{StartsUpTo}
 use Rattle.chars_stretch.proofs.starts_up_to.Given as goal
 
-abbrev pub invariant-loop-left : goal.invariant-loop-left
-invariant-loop-left l = StartsUpTo l.text l.from l.to
-
-abbrev pub decreases-loop-left : goal.decreases-loop-left
-decreases-loop-left l = l.left
+abbrev pub invariant-loop : goal.invariant-loop
+invariant-loop l = StartsUpTo l.text l.from l.to
