@@ -9,8 +9,6 @@ ghost use Rattle.lookup_chars.specs.Answers.{char_to_token_answer};
 ghost use Rattle.lookup_tokens.specs.Answers.{token_to_chars_answer};
 ghost use Rattle.record.specs.Read.{read};
 
-use lookup_search::TokenAnswer;
-use lookup_tokens::TokenCharsAnswer;
 use record::{Place, Row};
 
 // The row that holds a character, in a sequence of one encoding: found or not, row. Refused with 1.
@@ -27,18 +25,12 @@ pub extern "C" fn noddrefyr_char_to_token(
         (char_to_token_answer (read nodes.now rows.now) place sequence_id))
         result answer.new }
 {
-    let found = lookup_chars::char_to_token(nodes, rows, Place(place), sequence_id);
-    match found {
-        TokenAnswer::Refused(k) => k.number(),
-        TokenAnswer::Nothing => {
-            *answer = [0, 0];
-            0
-        }
-        TokenAnswer::Found(row) => {
-            *answer = [1, row.0];
-            0
-        }
-    }
+    let told = match lookup_chars::char_to_token(nodes, rows, Place(place), sequence_id) {
+        Ok(Some(found)) => Ok([1, found.0]),
+        Ok(None) => Ok([0; 2]),
+        Err(why) => Err(why),
+    };
+    c_crossing::cross(told, answer)
 }
 
 // The sequence of a row of one encoding, the row's place from the start of it, and the row's characters: found or not, sequence,
@@ -55,21 +47,10 @@ pub extern "C" fn noddrefyr_token_to_chars(
         (token_to_chars_answer (read nodes.now rows.now) token))
         result answer.new }
 {
-    let found = lookup_tokens::token_to_chars(nodes, rows, Row(token));
-    match found {
-        TokenCharsAnswer::Refused(k) => k.number(),
-        TokenCharsAnswer::Nothing => {
-            *answer = [0, 0, 0, 0, 0];
-            0
-        }
-        TokenCharsAnswer::Found {
-            sequence,
-            place,
-            start,
-            end,
-        } => {
-            *answer = [1, sequence, place.0, start.0, end.0];
-            0
-        }
-    }
+    let told = match lookup_tokens::token_to_chars(nodes, rows, Row(token)) {
+        Ok(Some(found)) => Ok([1, found.sequence, found.place.0, found.start.0, found.end.0]),
+        Ok(None) => Ok([0; 5]),
+        Err(why) => Err(why),
+    };
+    c_crossing::cross(told, answer)
 }

@@ -1,27 +1,37 @@
 -- How the answers of the lookups of sequences cross the C interface, each with what the lent numbers were. Where something may be
 -- absent, the first number says whether it is there, and all are 0 where it is not.
 -- Assumes nothing: these are definitions.
-use Rattle.std.specs.Prelude.{ℕ, List, [], ◌∷◌}
-use Rattle.record.specs.Refusals.{number_of}
-use Rattle.lookup_sequences.specs.declared.RangeAnswer as range
-use Rattle.lookup_sequences.specs.declared.CountAnswer as count
-use Rattle.lookup_sequences.specs.declared.SequenceAnswer as sequence
-use Rattle.lookup_sequences.specs.declared.ColumnAnswer as column
-use Rattle.c_crossing.specs.Crossing.{Crossed, crossed}
+use Rattle.std.specs.Prelude.{ℕ, List, [], ◌∷◌, Option, Some, None, Result, Ok, Err}
+use Rattle.record.specs.declared.Refusal.{Refusal}
+use Rattle.lookup_ranges.specs.declared.Rows.{Rows}
+use Rattle.lookup_holding.specs.declared.Sequence.{Sequence}
+use Rattle.c_crossing.specs.Crossing.{Crossed, crossed_of}
 
-abbrev pub range_crossed : List ℕ → range.RangeAnswer → Crossed
-range_crossed was (range.TheVariants.Refused k) = crossed (number_of k) was
-range_crossed was (range.TheVariants.Rows a b) = crossed 0 (a.0 ∷ b.0 ∷ [])
+-- ---- The numbers of each
 
-abbrev pub count_crossed : List ℕ → count.CountAnswer → Crossed
-count_crossed was (count.TheVariants.Refused k) = crossed (number_of k) was
-count_crossed was (count.TheVariants.Count n) = crossed 0 (n ∷ [])
+abbrev pub range_numbers : Result Rows Refusal → Result (List ℕ) Refusal
+range_numbers (Err k) = Err k
+range_numbers (Ok r) = Ok (r.start.0 ∷ r.end.0 ∷ [])
 
-abbrev pub sequence_crossed : List ℕ → sequence.SequenceAnswer → Crossed
-sequence_crossed was (sequence.TheVariants.Refused k) = crossed (number_of k) was
-sequence_crossed was sequence.TheVariants.Nothing = crossed 0 (0 ∷ 0 ∷ 0 ∷ [])
-sequence_crossed was (sequence.TheVariants.Found s p) = crossed 0 (1 ∷ s ∷ p.0 ∷ [])
+abbrev pub count_numbers : Result ℕ Refusal → Result (List ℕ) Refusal
+count_numbers (Err k) = Err k
+count_numbers (Ok n) = Ok (n ∷ [])
 
-abbrev pub column_crossed : List ℕ → column.ColumnAnswer → Crossed
-column_crossed was (column.TheVariants.Refused k) = crossed (number_of k) was
-column_crossed was (column.TheVariants.Done n) = crossed 0 (n ∷ [])
+abbrev pub sequence_numbers : Result (Option Sequence) Refusal → Result (List ℕ) Refusal
+sequence_numbers (Err k) = Err k
+sequence_numbers (Ok None) = Ok (0 ∷ 0 ∷ 0 ∷ [])
+sequence_numbers (Ok (Some s)) = Ok (1 ∷ s.sequence ∷ s.place.0 ∷ [])
+
+-- ---- In the place of what the lent numbers were
+
+abbrev pub range_crossed : List ℕ → Result Rows Refusal → Crossed
+range_crossed was a = crossed_of was (range_numbers a)
+
+abbrev pub count_crossed : List ℕ → Result ℕ Refusal → Crossed
+count_crossed was a = crossed_of was (count_numbers a)
+
+abbrev pub sequence_crossed : List ℕ → Result (Option Sequence) Refusal → Crossed
+sequence_crossed was a = crossed_of was (sequence_numbers a)
+
+abbrev pub column_crossed : List ℕ → Result ℕ Refusal → Crossed
+column_crossed was a = crossed_of was (count_numbers a)

@@ -8,7 +8,6 @@ ghost use Rattle.c_sequences.specs.Answers.{range_crossed, count_crossed, sequen
 ghost use Rattle.lookup_sequences.specs.Answers.{range_answer, sequence_count_answer, sequence_answer, column_answer, column_left, sequence_ids};
 ghost use Rattle.record.specs.Read.{read};
 
-use lookup_sequences::{ColumnAnswer, CountAnswer, RangeAnswer, SequenceAnswer};
 use record::Row;
 
 // The rows of a sequence of one encoding: start, end (not included). Refused with 1.
@@ -24,14 +23,11 @@ pub extern "C" fn noddrefyr_sequence_range(
         (range_answer (read nodes.now rows.now) sequence_id))
         result answer.new }
 {
-    let found = lookup_sequences::sequence_range(nodes, rows, sequence_id);
-    match found {
-        RangeAnswer::Refused(k) => k.number(),
-        RangeAnswer::Rows { start, end } => {
-            *answer = [start.0, end.0];
-            0
-        }
-    }
+    let told = match lookup_sequences::sequence_range(nodes, rows, sequence_id) {
+        Ok(found) => Ok([found.start.0, found.end.0]),
+        Err(why) => Err(why),
+    };
+    c_crossing::cross(told, answer)
 }
 
 // The number of sequences of one encoding. Refused with 1.
@@ -41,14 +37,11 @@ pub extern "C" fn noddrefyr_n_sequences(nodes: &[u32], rows: &[u32], answer: &mu
         (count_crossed answer.old (sequence_count_answer (read nodes.now rows.now))) result
         answer.new }
 {
-    let found = lookup_sequences::n_sequences(nodes, rows);
-    match found {
-        CountAnswer::Refused(k) => k.number(),
-        CountAnswer::Count(n) => {
-            *answer = [n];
-            0
-        }
-    }
+    let told = match lookup_sequences::n_sequences(nodes, rows) {
+        Ok(n) => Ok([n]),
+        Err(why) => Err(why),
+    };
+    c_crossing::cross(told, answer)
 }
 
 // The sequence that a row of one encoding is in, and the row's place from the start of it: found or not, sequence, place.
@@ -64,18 +57,12 @@ pub extern "C" fn noddrefyr_token_to_sequence(
         (sequence_crossed answer.old (sequence_answer (read nodes.now rows.now) token))
         result answer.new }
 {
-    let found = lookup_sequences::token_to_sequence(nodes, rows, Row(token));
-    match found {
-        SequenceAnswer::Refused(k) => k.number(),
-        SequenceAnswer::Nothing => {
-            *answer = [0, 0, 0];
-            0
-        }
-        SequenceAnswer::Found { sequence, place } => {
-            *answer = [1, sequence, place.0];
-            0
-        }
-    }
+    let told = match lookup_sequences::token_to_sequence(nodes, rows, Row(token)) {
+        Ok(Some(found)) => Ok([1, found.sequence, found.place.0]),
+        Ok(None) => Ok([0; 3]),
+        Err(why) => Err(why),
+    };
+    c_crossing::cross(told, answer)
 }
 
 // The mark and the sequence of each row of one encoding, written to out; written is the number of rows. Refused with 1, 2.
@@ -94,10 +81,10 @@ pub extern "C" fn noddrefyr_get_sequence_ids(
         column_left (sequence_ids (read nodes.now rows.now) (length out.old))
         out.old }
 {
-    let found = lookup_sequences::get_sequence_ids(nodes, rows, out);
-    match found {
-        ColumnAnswer::Refused(k) => k.number(),
-        ColumnAnswer::Done(n) => {
+    // A match: `c_crossing::cross` is for numbers of 32 bits, and this one has the width of a length.
+    match lookup_sequences::get_sequence_ids(nodes, rows, out) {
+        Err(why) => why.number(),
+        Ok(n) => {
             *written = [n];
             0
         }

@@ -8,7 +8,6 @@ ghost use Rattle.lookup_texts.specs.NodeSpan.{span_answer};
 ghost use Rattle.lookup_texts.specs.RowText.{text_answer};
 ghost use Rattle.record.specs.Read.{read};
 
-use lookup_texts::{SpanAnswer, TextAnswer};
 use record::Row;
 
 // Where the text of a row lies, numbered through the whole batch: found or not, pool (0 tokens, 1 added), start, length.
@@ -28,22 +27,12 @@ pub extern "C" fn noddrefyr_text(
         added.now))
         result answer.new }
 {
-    let found = lookup_texts::text(nodes, rows, Row(row), tokens, added);
-    match found {
-        TextAnswer::Refused(k) => k.number(),
-        TextAnswer::Nothing => {
-            *answer = [0, 0, 0, 0];
-            0
-        }
-        TextAnswer::Found {
-            pool,
-            start,
-            length,
-        } => {
-            *answer = [1, pool, start, length];
-            0
-        }
-    }
+    let told = match lookup_texts::text(nodes, rows, Row(row), tokens, added) {
+        Ok(Some(found)) => Ok([1, found.pool, found.start, found.length]),
+        Ok(None) => Ok([0; 4]),
+        Err(why) => Err(why),
+    };
+    c_crossing::cross(told, answer)
 }
 
 // The least offset start and the greatest offset end of a node over its own rows with special mask 0, numbered through the
@@ -59,16 +48,10 @@ pub extern "C" fn noddrefyr_span(
         (span_crossed answer.old (span_answer (read nodes.now rows.now) node)) result
         answer.new }
 {
-    let found = lookup_texts::span(nodes, rows, node);
-    match found {
-        SpanAnswer::Refused(k) => k.number(),
-        SpanAnswer::Nothing => {
-            *answer = [0, 0, 0];
-            0
-        }
-        SpanAnswer::Found { start, end } => {
-            *answer = [1, start.0, end.0];
-            0
-        }
-    }
+    let told = match lookup_texts::span(nodes, rows, node) {
+        Ok(Some(found)) => Ok([1, found.start.0, found.end.0]),
+        Ok(None) => Ok([0; 3]),
+        Err(why) => Err(why),
+    };
+    c_crossing::cross(told, answer)
 }

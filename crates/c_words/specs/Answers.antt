@@ -1,30 +1,46 @@
 -- How the answers of the lookups of words cross the C interface, each with what the lent numbers were. Where something may be
 -- absent, the first number says whether it is there, and all are 0 where it is not.
 -- Assumes nothing: these are definitions.
-use Rattle.std.specs.Prelude.{ℕ, List, [], ◌∷◌}
-use Rattle.record.specs.Refusals.{number_of}
-use Rattle.lookup_search.specs.declared.TokensAnswer as tokens
-use Rattle.lookup_words.specs.declared.CharsAnswer as chars
-use Rattle.lookup_tokens.specs.declared.TokenWordAnswer as token_word
-use Rattle.lookup_chars.specs.declared.WordAnswer as word
-use Rattle.c_crossing.specs.Crossing.{Crossed, crossed}
+use Rattle.std.specs.Prelude.{ℕ, List, [], ◌∷◌, Option, Some, None, Result, Ok, Err}
+use Rattle.record.specs.declared.Refusal.{Refusal}
+use Rattle.record.specs.declared.Word.{Word}
+use Rattle.lookup_ranges.specs.declared.Rows.{Rows}
+use Rattle.lookup_words.specs.declared.Chars.{Chars}
+use Rattle.lookup_tokens.specs.declared.TokenWord.{TokenWord}
+use Rattle.c_crossing.specs.Crossing.{Crossed, crossed_of}
 
-abbrev pub tokens_crossed : List ℕ → tokens.TokensAnswer → Crossed
-tokens_crossed was (tokens.TheVariants.Refused k) = crossed (number_of k) was
-tokens_crossed was tokens.TheVariants.Nothing = crossed 0 (0 ∷ 0 ∷ 0 ∷ [])
-tokens_crossed was (tokens.TheVariants.Found a b) = crossed 0 (1 ∷ a.0 ∷ b.0 ∷ [])
+-- ---- The numbers of each
 
-abbrev pub chars_crossed : List ℕ → chars.CharsAnswer → Crossed
-chars_crossed was (chars.TheVariants.Refused k) = crossed (number_of k) was
-chars_crossed was chars.TheVariants.Nothing = crossed 0 (0 ∷ 0 ∷ 0 ∷ [])
-chars_crossed was (chars.TheVariants.Found a b) = crossed 0 (1 ∷ a.0 ∷ b.0 ∷ [])
+abbrev pub tokens_numbers : Result (Option Rows) Refusal → Result (List ℕ) Refusal
+tokens_numbers (Err k) = Err k
+tokens_numbers (Ok None) = Ok (0 ∷ 0 ∷ 0 ∷ [])
+tokens_numbers (Ok (Some f)) = Ok (1 ∷ f.start.0 ∷ f.end.0 ∷ [])
 
-abbrev pub token_word_crossed : List ℕ → token_word.TokenWordAnswer → Crossed
-token_word_crossed was (token_word.TheVariants.Refused k) = crossed (number_of k) was
-token_word_crossed was token_word.TheVariants.Nothing = crossed 0 (0 ∷ 0 ∷ 0 ∷ 0 ∷ [])
-token_word_crossed was (token_word.TheVariants.Found s p w) = crossed 0 (1 ∷ s ∷ p.0 ∷ w.0 ∷ [])
+abbrev pub chars_numbers : Result (Option Chars) Refusal → Result (List ℕ) Refusal
+chars_numbers (Err k) = Err k
+chars_numbers (Ok None) = Ok (0 ∷ 0 ∷ 0 ∷ [])
+chars_numbers (Ok (Some f)) = Ok (1 ∷ f.start.0 ∷ f.end.0 ∷ [])
 
-abbrev pub word_crossed : List ℕ → word.WordAnswer → Crossed
-word_crossed was (word.TheVariants.Refused k) = crossed (number_of k) was
-word_crossed was word.TheVariants.Nothing = crossed 0 (0 ∷ 0 ∷ [])
-word_crossed was (word.TheVariants.Found w) = crossed 0 (1 ∷ w.0 ∷ [])
+abbrev pub token_word_numbers : Result (Option TokenWord) Refusal → Result (List ℕ) Refusal
+token_word_numbers (Err k) = Err k
+token_word_numbers (Ok None) = Ok (0 ∷ 0 ∷ 0 ∷ 0 ∷ [])
+token_word_numbers (Ok (Some f)) = Ok (1 ∷ f.sequence ∷ f.place.0 ∷ f.word.0 ∷ [])
+
+abbrev pub word_numbers : Result (Option Word) Refusal → Result (List ℕ) Refusal
+word_numbers (Err k) = Err k
+word_numbers (Ok None) = Ok (0 ∷ 0 ∷ [])
+word_numbers (Ok (Some f)) = Ok (1 ∷ f.0 ∷ [])
+
+-- ---- In the place of what the lent numbers were
+
+abbrev pub tokens_crossed : List ℕ → Result (Option Rows) Refusal → Crossed
+tokens_crossed was a = crossed_of was (tokens_numbers a)
+
+abbrev pub chars_crossed : List ℕ → Result (Option Chars) Refusal → Crossed
+chars_crossed was a = crossed_of was (chars_numbers a)
+
+abbrev pub token_word_crossed : List ℕ → Result (Option TokenWord) Refusal → Crossed
+token_word_crossed was a = crossed_of was (token_word_numbers a)
+
+abbrev pub word_crossed : List ℕ → Result (Option Word) Refusal → Crossed
+word_crossed was a = crossed_of was (word_numbers a)

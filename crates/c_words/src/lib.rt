@@ -9,10 +9,6 @@ ghost use Rattle.lookup_tokens.specs.Answers.{token_to_word_answer};
 ghost use Rattle.lookup_words.specs.Answers.{word_to_tokens_answer, word_to_chars_answer};
 ghost use Rattle.record.specs.Read.{read};
 
-use lookup_chars::WordAnswer;
-use lookup_search::TokensAnswer;
-use lookup_tokens::TokenWordAnswer;
-use lookup_words::CharsAnswer;
 use record::{Place, Row, Word};
 
 // The rows of a word in a sequence of one encoding: found or not, start, end (not included). Refused with 1.
@@ -29,18 +25,12 @@ pub extern "C" fn noddrefyr_word_to_tokens(
         (word_to_tokens_answer (read nodes.now rows.now) word sequence_id))
         result answer.new }
 {
-    let found = lookup_words::word_to_tokens(nodes, rows, Word(word), sequence_id);
-    match found {
-        TokensAnswer::Refused(k) => k.number(),
-        TokensAnswer::Nothing => {
-            *answer = [0, 0, 0];
-            0
-        }
-        TokensAnswer::Found { start, end } => {
-            *answer = [1, start.0, end.0];
-            0
-        }
-    }
+    let told = match lookup_words::word_to_tokens(nodes, rows, Word(word), sequence_id) {
+        Ok(Some(found)) => Ok([1, found.start.0, found.end.0]),
+        Ok(None) => Ok([0; 3]),
+        Err(why) => Err(why),
+    };
+    c_crossing::cross(told, answer)
 }
 
 // The characters of a word in a sequence of one encoding: found or not, start, end. Refused with 1.
@@ -57,18 +47,12 @@ pub extern "C" fn noddrefyr_word_to_chars(
         (word_to_chars_answer (read nodes.now rows.now) word sequence_id))
         result answer.new }
 {
-    let found = lookup_words::word_to_chars(nodes, rows, Word(word), sequence_id);
-    match found {
-        CharsAnswer::Refused(k) => k.number(),
-        CharsAnswer::Nothing => {
-            *answer = [0, 0, 0];
-            0
-        }
-        CharsAnswer::Found { start, end } => {
-            *answer = [1, start.0, end.0];
-            0
-        }
-    }
+    let told = match lookup_words::word_to_chars(nodes, rows, Word(word), sequence_id) {
+        Ok(Some(found)) => Ok([1, found.start.0, found.end.0]),
+        Ok(None) => Ok([0; 3]),
+        Err(why) => Err(why),
+    };
+    c_crossing::cross(told, answer)
 }
 
 // The sequence of a row of one encoding, the row's place from the start of it, and the row's word: found or not, sequence, place,
@@ -85,22 +69,12 @@ pub extern "C" fn noddrefyr_token_to_word(
         (token_to_word_answer (read nodes.now rows.now) token))
         result answer.new }
 {
-    let found = lookup_tokens::token_to_word(nodes, rows, Row(token));
-    match found {
-        TokenWordAnswer::Refused(k) => k.number(),
-        TokenWordAnswer::Nothing => {
-            *answer = [0, 0, 0, 0];
-            0
-        }
-        TokenWordAnswer::Found {
-            sequence,
-            place,
-            word,
-        } => {
-            *answer = [1, sequence, place.0, word.0];
-            0
-        }
-    }
+    let told = match lookup_tokens::token_to_word(nodes, rows, Row(token)) {
+        Ok(Some(found)) => Ok([1, found.sequence, found.place.0, found.word.0]),
+        Ok(None) => Ok([0; 4]),
+        Err(why) => Err(why),
+    };
+    c_crossing::cross(told, answer)
 }
 
 // The word that holds a character, in a sequence of one encoding: found or not, word. Refused with 1.
@@ -117,16 +91,10 @@ pub extern "C" fn noddrefyr_char_to_word(
         (char_to_word_answer (read nodes.now rows.now) place sequence_id))
         result answer.new }
 {
-    let found = lookup_chars::char_to_word(nodes, rows, Place(place), sequence_id);
-    match found {
-        WordAnswer::Refused(k) => k.number(),
-        WordAnswer::Nothing => {
-            *answer = [0, 0];
-            0
-        }
-        WordAnswer::Found(word) => {
-            *answer = [1, word.0];
-            0
-        }
-    }
+    let told = match lookup_chars::char_to_word(nodes, rows, Place(place), sequence_id) {
+        Ok(Some(found)) => Ok([1, found.0]),
+        Ok(None) => Ok([0; 2]),
+        Err(why) => Err(why),
+    };
+    c_crossing::cross(told, answer)
 }
