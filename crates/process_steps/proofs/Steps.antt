@@ -6,7 +6,7 @@ use mathlib.Core.Option.{Option}
 use mathlib.Core.List.{List, [], ◌∷◌, ◌++◌, flat_map, append_assoc}
 use Prim.Native.Nat.{ℕ, suc, ◌+◌, ◌*◌, ◌≤◌}
 use native.Mathlib.Omega.{arith}
-use lib.ListN.{length, get_or, take, drop, length-append}
+use lib.ListN.{length, get_or, length-append}
 use lib.Seq.{get_or-append-add}
 use Rattle.record.specs.Tree.{Encoding}
 use Rattle.template_text.specs.Template.{piece_width}
@@ -19,17 +19,6 @@ step_long : (s : Step) → length (step_numbers s) ≡ piece_width
 step_long (First t) = refl
 step_long (Second t) = refl
 step_long (Special t entry) = refl
-
-pub numbers_long : {l : List ℕ} (s : Step) → l ≡ step_numbers s → length l ≡ piece_width
-numbers_long s e = ap length e ∙ step_long s
-
-step_whole : (s : Step) → take piece_width (drop 0 (step_numbers s)) ≡ step_numbers s
-step_whole (First t) = refl
-step_whole (Second t) = refl
-step_whole (Special t entry) = refl
-
-pub numbers_whole : {l : List ℕ} (s : Step) → l ≡ step_numbers s → take piece_width (drop 0 l) ≡ step_numbers s
-numbers_whole s e = ap (λ (k : List ℕ). take piece_width (drop 0 k)) e ∙ step_whole s
 
 pub length_steps : (steps : List Step) → length (flat_map step_numbers steps) ≡ length steps * piece_width
 unfolding flat_map
