@@ -2,15 +2,12 @@
 // lent numbers, which a refusal leaves as they were. include/noddrefyr.h is made from this file too.
 #![tactic(auto)]
 
-ghost use Rattle.std.specs.Prelude.{◌≡◌};
 ghost use Rattle.c_crossing.specs.Crossing.{WritesOut};
 ghost use Rattle.c_crossing.specs.Options.{direction_of};
 ghost use Rattle.c_cut.specs.Options.{second_length_of};
 ghost use Rattle.record.specs.Read.{read};
 ghost use Rattle.truncate.specs.Truncate.{truncate_outcome};
 ghost use Rattle.truncate_pair.specs.CutPair.{cut_pair_outcome};
-
-use truncate_pair::SecondLength;
 
 // One encoding cut to max rows, from its left or its right end, with the other windows of the cut as its windows, written
 // to the output; written is its nodes and its rows. Refused with 1, 3, 2.
@@ -60,7 +57,7 @@ pub extern "C" fn noddrefyr_cut_pair(
         out_nodes.new out_rows.new }
 {
     let direction = c_crossing::direction_of(left);
-    let length = second_length_of(has_second_length, second_length);
+    let length = has_second_length.then_some(second_length);
     let answer = truncate_pair::cut_pair(
         nodes,
         rows,
@@ -72,15 +69,4 @@ pub extern "C" fn noddrefyr_cut_pair(
         out_rows,
     );
     c_crossing::told(answer, written)
-}
-
-// The length for the second, if there is one.
-fn second_length_of(has_length: bool, length: u32) -> SecondLength
-    ensures { result ≡ second_length_of has_length length }
-{
-    if has_length {
-        SecondLength::Rows(length)
-    } else {
-        SecondLength::Whole
-    }
 }
