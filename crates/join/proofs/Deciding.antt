@@ -1,7 +1,7 @@
 -- What becomes of two batches of one encoding each that are to be joined: each refusal, and the result.
 -- Assumes nothing.
 use Rattle.std.specs.Prelude.{Ok}
-use mathlib.Core.Path.{◌≡◌, ap₂, ◌∙◌}
+use mathlib.Core.Path.{◌≡◌, ◌∙◌}
 use mathlib.Core.Bool.{Bool, true, false}
 use mathlib.Core.List.{List, [], ◌∷◌}
 use Prim.Native.Nat.{ℕ}
@@ -64,4 +64,4 @@ module _ {xs rs ys ss : List ℕ} {S P : Encoding} (s : One xs rs S) (p : One ys
           let t = roomy_takes sized out out' e in
           let q = rw (seen_plain P) at put in
           let l = room_lengths (join_fine g S P s.stores.well.fine p.stores.well.fine) room in
-          writes_done J (join_of g out out' s p ∙ join_done g out out' S P room f) l.0 l.1 (ap₂ Ok (record { nodes = t.nodes; rows = t.rows })) q.nodes_put q.rows_put
+          writes_done J (join_of g out out' s p ∙ join_done g out out' S P room f) l.0 l.1 (rw (t.nodes, t.rows)) q.nodes_put q.rows_put

@@ -15,6 +15,7 @@ use Rattle.record.specs.Flat.{row_width, node_width, flat_nodes, flat_rows}
 use Rattle.record.specs.WellFormed.{nodes_in, rows_in}
 use Rattle.record.specs.Read.{read}
 use Rattle.record.specs.Standing.{One}
+use Rattle.record.specs.declared.Written.{Written}
 use Rattle.record.specs.Outcome.{Outcome, refused, done, left, Writes}
 use Rattle.record.proofs.Flat.{length_nodes, length_rows}
 use Rattle.record.proofs.Read.{found, stored}
@@ -42,8 +43,9 @@ module _ {g : Bool} {xs rs ys ss : List ℕ} (c : Call g xs rs ys ss) where
       go : (o : Outcome) → join_outcome g (read xs rs) (read ys ss) c.nodes c.rows ≡ o → Writes o (Ok (record { nodes = c.node_count; rows = c.row_count })) c.nodes c.rows c.nodes_after c.rows_after → Left g xs rs ys ss c
       go (refused k) e w = absurd (let z : ◌≡◌ {A = ℕ} 0 1 = cc w.answers in omega arith)
       go (done f) e w =
-          let n : c.node_count ≡ nodes_in f = cc w.answers in
-          let m : c.row_count ≡ rows_in f = cc w.answers in
+          let told : ◌≡◌ {A = Written} (record { nodes = c.node_count; rows = c.row_count }) (record { nodes = nodes_in f; rows = rows_in f }) = cc w.answers in
+          let n : c.node_count ≡ nodes_in f = ap (λ (x : Written). x.nodes) told in
+          let m : c.row_count ≡ rows_in f = ap (λ (x : Written). x.rows) told in
           let fine = (stored (flat_nodes f) (flat_rows f) f (join_reads g xs rs ys ss c.nodes c.rows e)).well.fine in
           let nodes_long : length (flat_nodes f) ≡ c.node_count * node_width = length_nodes f fine ∙ ap (◌* node_width) (sym n) in
           let rows_long : length (flat_rows f) ≡ c.row_count * row_width = length_rows f ∙ ap (◌* row_width) (sym m) in
