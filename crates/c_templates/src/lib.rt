@@ -7,7 +7,7 @@ ghost use Rattle.c_crossing.specs.Crossing.{Crosses};
 ghost use Rattle.c_templates.specs.Answers.{template_crossed, template_fault};
 ghost use Rattle.template_text.specs.Template.{read_template, template_of};
 
-use template_text::{Template, TemplateAnswer};
+use template_text::Template;
 
 // The pieces of a template text, kind (0 A, 1 B, 2 special), type, id start and id length in the text of each, spare ones zero,
 // and their number. Refused with 8, 19, 20, 21; with the last three fault is the number of the part at fault and the place of its
@@ -22,16 +22,13 @@ pub extern "C" fn noddrefyr_read_template(
     ensures answer { Crosses
         (template_crossed (count.old ∷ pieces.old) (template_of (read_template text.now))) result
         (count.new ∷ pieces.new) }
-    ensures part { fault.new ≡ template_fault fault.old (template_of (read_template text.now)).answer }
+    ensures part { fault.new ≡ template_fault fault.old (template_of (read_template text.now)) }
 {
-    let read = template_text::read_template(text);
-    let answer = read.answer;
-    let numbers = read.pieces;
-    match answer {
-        TemplateAnswer::Refused(k) => c_crossing::fault_told(k, fault),
-        TemplateAnswer::Read(n) => {
-            *pieces = numbers;
-            *count = n;
+    match template_text::read_template(text) {
+        Err(k) => c_crossing::fault_told(k, fault),
+        Ok(template) => {
+            *pieces = template.pieces;
+            *count = template.count;
             0
         }
     }

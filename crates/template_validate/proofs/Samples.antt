@@ -15,8 +15,7 @@ use Rattle.template_entries.specs.Table.{Table, entry_at, member_at, entries_in,
 use Rattle.template_find.specs.Last.{last_with}
 use Rattle.template_text.specs.declared.Which.TheVariants.{Single, Pair}
 use Rattle.template_text.specs.Used.{text_used}
-use Rattle.template_validate.specs.Validation.{refused_in, validity, validity_refusal, validity_fault}
-use Rattle.template_validate.specs.declared.Validation.{Validation}
+use Rattle.template_validate.specs.Validation.{Validation, refused_in, validity, validity_refusal, validity_fault}
 use Rattle.template_walk.specs.Counting.{added, added_by, added_answer, count_told}
 use Rattle.template_known.specs.Known.{known, known_answer}
 

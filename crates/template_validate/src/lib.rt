@@ -4,16 +4,12 @@
 ghost use Rattle.std.specs.Prelude.{◌≡◌};
 ghost use Rattle.template_validate.specs.Validation.{refused_in, of_validity, validate_answer, count_answer};
 
-use record::{Fault, FaultAnswer, Refusal};
-use template_known::Validity;
-use template_table::TableAnswer;
+use record::{Fault, Refusal};
 use template_text::Which;
-use template_walk::{CountAnswer, SequencesAnswer};
 
-// Valid; refused; or refused for a part that cannot be read, with the template that it is in.
+// Why two templates cannot be used: a refusal, and for a part that cannot be read the template that it is in.
 #[derive(Clone, Copy)]
-pub enum Validation {
-    Valid,
+pub enum Invalid {
     Refused(Refusal),
     Unreadable(Which, Fault),
 }
@@ -28,29 +24,29 @@ pub fn validate(
     entries: &[u32],
     members: &[u32],
     added: &[u8],
-) -> Validation
+) -> Result<(), Invalid>
     ensures { result ≡ validate_answer single_set single.now pair_set pair.now entries.now
         members.now added.now }
 {
     let table = template_table::check_table(entries, members, added);
-    if let TableAnswer::Refused(why) = table {
-        return Validation::Refused(why);
+    if let Err(why) = table {
+        return Err(Invalid::Refused(why));
     }
     let single_text = template_text::text_used(single_set, single, b"$0");
     let pair_text = template_text::text_used(pair_set, pair, b"$A:0 $B:1");
     let in_single = template_walk::sequences_in(single_text);
-    if let SequencesAnswer::Refused(why) = in_single {
-        return refused_in(Which::Single, why);
+    if let Err(why) = in_single {
+        return Err(refused_in(Which::Single, why));
     }
     let in_pair = template_walk::sequences_in(pair_text);
     match in_pair {
-        SequencesAnswer::Refused(why) => refused_in(Which::Pair, why),
-        SequencesAnswer::Named { a, b } => {
-            if !a {
-                return Validation::Refused(Refusal::PairLacksAOrB);
+        Err(why) => Err(refused_in(Which::Pair, why)),
+        Ok(named) => {
+            if !named.a {
+                return Err(Invalid::Refused(Refusal::PairLacksAOrB));
             }
-            if !b {
-                return Validation::Refused(Refusal::PairLacksAOrB);
+            if !named.b {
+                return Err(Invalid::Refused(Refusal::PairLacksAOrB));
             }
             checked(template_known::both_known(single_text, pair_text, entries, added))
         }
@@ -58,22 +54,22 @@ pub fn validate(
 }
 
 // Refused for what stands in one of the templates, which is told where a part of it is at fault.
-fn refused_in(which: Which, why: Refusal) -> Validation
+fn refused_in(which: Which, why: Refusal) -> Invalid
     ensures { result ≡ refused_in which why }
 {
-    let FaultAnswer::Part(fault) = why.fault() else {
-        return Validation::Refused(why);
-    };
-    Validation::Unreadable(which, fault)
+    match why.fault() {
+        None => Invalid::Refused(why),
+        Some(fault) => Invalid::Unreadable(which, fault),
+    }
 }
 
 // The answer of the last check.
-fn checked(known: Validity) -> Validation
+fn checked(known: Result<(), Refusal>) -> Result<(), Invalid>
     ensures { result ≡ of_validity known }
 {
     match known {
-        Validity::Valid => Validation::Valid,
-        Validity::Refused(why) => Validation::Refused(why),
+        Ok(()) => Ok(()),
+        Err(why) => Err(Invalid::Refused(why)),
     }
 }
 
@@ -86,14 +82,11 @@ pub fn count_added(
     entries: &[u32],
     members: &[u32],
     added: &[u8],
-) -> CountAnswer
+) -> Result<u64, Refusal>
     ensures { result ≡ count_answer set text.now which entries.now members.now
         added.now }
 {
-    let table = template_table::check_table(entries, members, added);
-    if let TableAnswer::Refused(why) = table {
-        return CountAnswer::Refused(why);
-    }
+    template_table::check_table(entries, members, added)?;
     match which {
         Which::Single => template_walk::count_pieces(
             template_text::text_used(set, text, b"$0"),
