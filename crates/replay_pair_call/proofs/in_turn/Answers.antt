@@ -7,6 +7,9 @@ use native.Mathlib.Omega.{arith}
 use mathlib.Core.List.{List, [], ◌∷◌}
 use lib.Dec.{ltb}
 use lib.ListN.{length, get_or}
+use Rattle.std.specs.Prelude.{Result}
+use Rattle.std.specs.Prelude as prelude
+use Rattle.record.specs.declared.Refusal.{Refusal}
 use Rattle.record.specs.Tree.{Encoding, forest}
 use Rattle.record.specs.Flat.{node_width}
 use Rattle.record.specs.Read.{read, is_one_or_two}
@@ -24,7 +27,6 @@ use Rattle.pair_lengths.specs.Lengths.{pair_lengths}
 use Rattle.pair_lengths.specs.declared.PairLengths.{PairLengths}
 use Rattle.pair_lengths.proofs.Keeps.{pair_lengths_keep}
 use Rattle.truncate_pair.specs.CutPair.{cut_pair_outcome}
-use Rattle.truncate_pair.specs.declared.SecondLength.{SecondLength}
 use Rattle.truncate_pair.proofs.Pair.{second_at}
 use Rattle.truncate_in_turn.specs.TruncatePair.{truncate_pair_outcome}
 use Rattle.truncate_in_turn.specs.InTurn.{cut_to}
@@ -35,7 +37,7 @@ use Rattle.replay_pair_call.proofs.Turns.{pair_malformed, turned_down, handed_ov
 use Rattle.replay_pair_call.proofs.in_turn.Goals as goal
 
 -- the lengths that the first call tells, of a first that takes so many nodes
-abbrev lengths : (nodes : List ℕ) (own : Extent) (n most strategy : ℕ) → PairLengths
+abbrev lengths : (nodes : List ℕ) (own : Extent) (n most strategy : ℕ) → Result PairLengths Refusal
 lengths nodes own n most strategy =
     pair_lengths (get_or nodes 0 0) (second_of (ltb (own.nodes * node_width) (length nodes)) n) most (strategy_of strategy)
 
@@ -80,7 +82,7 @@ returns-then-refusal-ne0 c =
     let t = those v.nodes.now v.rows.now there in
     let own = c.measure-own.result in
     let n = c.number_at-second_rows.result in
-    let outcome : ℕ → SecondLength → Outcome = λ (k : ℕ) (m : SecondLength). cut_pair_outcome v.out_nodes.now v.out_rows.now k m v.stride (direction_of v.left) (read v.nodes.now v.rows.now) in
+    let outcome : ℕ → prelude.Option ℕ → Outcome = λ (k : ℕ) (m : prelude.Option ℕ). cut_pair_outcome v.out_nodes.now v.out_rows.now k m v.stride (direction_of v.left) (read v.nodes.now v.rows.now) in
     let d = turned_down _ (get_or v.nodes.now 0 0) v.max_length (second_of (ltb (own.nodes * node_width) (length v.nodes.now)) n) (lengths v.nodes.now own n v.max_length v.strategy) (pair_lengths_keep _ _ _ _).each c.noddrefyr_pair_lengths-refusal.ensures.crosses c.if-refusal-ne0.true in
     let e = cut v.nodes.now v.rows.now there own (c.measure-own.ensures _ (here_stands (first_here t.1 t.2))) v.out_nodes.now v.out_rows.now v.max_length v.stride v.strategy v.left n c.number_at-second_rows.ensures in
     writes_out (writes_refused d.why (e ∙ ap (cut_to outcome) d.is) d.leaves refl refl refl) d.number refl
@@ -92,7 +94,7 @@ returns c =
     let t = those v.nodes.now v.rows.now there in
     let own = c.measure-own.result in
     let n = c.number_at-second_rows.result in
-    let outcome : ℕ → SecondLength → Outcome = λ (k : ℕ) (m : SecondLength). cut_pair_outcome v.out_nodes.now v.out_rows.now k m v.stride (direction_of v.left) (read v.nodes.now v.rows.now) in
+    let outcome : ℕ → prelude.Option ℕ → Outcome = λ (k : ℕ) (m : prelude.Option ℕ). cut_pair_outcome v.out_nodes.now v.out_rows.now k m v.stride (direction_of v.left) (read v.nodes.now v.rows.now) in
     let h = handed_over _ (get_or v.nodes.now 0 0) v.max_length (ltb (own.nodes * node_width) (length v.nodes.now)) n (lengths v.nodes.now own n v.max_length v.strategy) outcome (pair_lengths_keep _ _ _ _).each c.noddrefyr_pair_lengths-refusal.ensures.crosses c.if-refusal-ne0.false in
     let e = cut v.nodes.now v.rows.now there own (c.measure-own.ensures _ (here_stands (first_here t.1 t.2))) v.out_nodes.now v.out_rows.now v.max_length v.stride v.strategy v.left n c.number_at-second_rows.ensures in
     rw (e, h) c.noddrefyr_cut_pair.ensures
