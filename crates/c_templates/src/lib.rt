@@ -27,7 +27,8 @@ pub extern "C" fn noddrefyr_read_template(
     match template_text::read_template(text) {
         Err(k) => c_crossing::fault_told(k, fault),
         Ok(template) => {
-            *pieces = template.pieces;
+            let numbers = template.pieces;
+            *pieces = numbers;
             *count = template.count;
             0
         }

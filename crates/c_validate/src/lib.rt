@@ -11,8 +11,7 @@ ghost use Rattle.template_text.specs.Used.{which_number};
 ghost use Rattle.template_validate.specs.Validation.{validate_answer, count_answer};
 
 use template_text::Which;
-use template_validate::Validation;
-use template_walk::CountAnswer;
+use template_validate::Invalid;
 
 // Whether a template for one encoding and one for a pair can be used with a special table. One that is not set is `$0`, or
 // `$A:0 $B:1`, whatever its text. Refused with 15, 12, then 8, 19, 20, 21 for the single, 8, 19, 20, 21 for the pair, 9, 10. With
@@ -38,9 +37,9 @@ pub extern "C" fn noddrefyr_validate(
         single_set, single, pair_set, pair, entries, members, added,
     );
     match found {
-        Validation::Valid => 0,
-        Validation::Refused(k) => k.number(),
-        Validation::Unreadable(which, found) => {
+        Ok(()) => 0,
+        Err(Invalid::Refused(k)) => k.number(),
+        Err(Invalid::Unreadable(which, found)) => {
             *fault = [which_number(which), found.part, found.place];
             let why = found.why;
             why.number()
@@ -88,8 +87,8 @@ pub extern "C" fn noddrefyr_count_added(
     let which = which_of(is_pair);
     let found = template_validate::count_added(set, text, which, entries, members, added);
     match found {
-        CountAnswer::Refused(k) => c_crossing::fault_told(k, fault),
-        CountAnswer::Count(sum) => {
+        Err(k) => c_crossing::fault_told(k, fault),
+        Ok(sum) => {
             *count = sum;
             0
         }

@@ -19,7 +19,7 @@ pub extern "C" fn noddrefyr_read_template(
     ensures answer { Crosses
         (template_crossed (count.old ∷ pieces.old) (template_of (read_template text.now))) result
         (count.new ∷ pieces.new) }
-    ensures part { fault.new ≡ template_fault fault.old (template_of (read_template text.now)).answer }
+    ensures part { fault.new ≡ template_fault fault.old (template_of (read_template text.now)) }
 {
     c_templates::noddrefyr_read_template(text, pieces, count, fault)
 }

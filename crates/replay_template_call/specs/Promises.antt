@@ -19,4 +19,4 @@ reading_of text = template_crossed (7 ∷ replicate (most_parts * piece_width) 7
 
 -- and what is told of a part at fault
 abbrev pub fault_told : List ℕ → List ℕ
-fault_told text = template_fault (7 ∷ 7 ∷ []) (template_of (read_template text)).answer
+fault_told text = template_fault (7 ∷ 7 ∷ []) (template_of (read_template text))
