@@ -1,58 +1,23 @@
--- What comes at a place to the plan: as it is told from the numbers of a piece, and what that says to a walk over the pieces.
+-- What comes at a place to the plan, and what that says to a walk over the pieces.
 -- Assumes nothing.
-use mathlib.Core.Path.{◌≡◌, refl, ap, sym, subst, ◌∙◌}
-use mathlib.Core.Bool.{Bool, true, false, not, ◌&&◌, cond}
-use mathlib.Core.Option.{Option, none as nothing, some}
+use mathlib.Core.Path.{◌≡◌, refl, subst}
+use mathlib.Core.Bool.{Bool}
 use mathlib.Core.List.{List, [], ◌∷◌, ◌++◌}
 use Prim.Native.Nat.{ℕ, ◌+◌, ◌-◌, ◌<◌}
-use lib.Dec.{eqb}
 use lib.ListN.{length}
-use borrow.Author.Tests.{eq-eqb, eqb-true, eqb-false}
-use Rattle.record.specs.declared.Refusal.TheVariants.{PartUnreadable}
-use Rattle.lookup_ranges.specs.First.{part}
+use Rattle.std.specs.Prelude.{Option as Answer, Some, None, Result, Ok, Err}
+use Rattle.record.specs.declared.Refusal.{Refusal}
 use Rattle.template_parts.specs.Parts.{parts}
-use Rattle.template_pieces.specs.Piece.{Piece, special}
-use Rattle.template_pieces.proofs.Lies.{kind_special}
+use Rattle.template_pieces.specs.Piece.{Piece}
 use Rattle.template_text.specs.Template.{unread, reads, read_parts}
-use Rattle.template_text.specs.Comes.{comes_at}
+use Rattle.template_text.specs.Comes.{Coming, comes_at}
 use Rattle.template_text.specs.declared.PieceStep.{PieceStep}
-use Rattle.template_text.specs.declared.PieceStep.TheVariants.{End, Unreadable as NotRead, Read}
 use Rattle.template_text.proofs.Walked.{Walked}
 use Rattle.template_text.proofs.Coming.{Passing, comes}
 use Rattle.process_steps.specs.declared.Step.{Step}
-use Rattle.process_plan.specs.Promises.{special_step, step_of, step_answer, known_step, coming_step, next_step}
-use Rattle.process_plan.specs.declared.StepAnswer.{StepAnswer}
-use Rattle.process_plan.specs.declared.StepAnswer.TheVariants.{Unknown, Found}
+use Rattle.process_plan.specs.Promises.{step_of, with_next, coming_step, next_step}
 use Rattle.process_plan.specs.declared.NextStep.{NextStep}
-use Rattle.process_plan.specs.declared.NextStep.TheVariants.{Ended, Unreadable, NotKnown, LeftOut, Next}
-use Rattle.process_plan.proofs.Piece.{answer_found, answer_none, steps_of, piece_step, piece_unknown}
-
--- ---- As it is told
-
-module _ (entries added : List ℕ) (add : Bool) (text : List ℕ) (at : ℕ) where
-  pub tells : {coming : PieceStep} → comes_at text at ≡ coming → coming_step entries added add text coming ≡ next_step entries added add text at
-  unfolding next_step
-  tells e = sym (ap (coming_step entries added add text) e)
-
-  module _ {kind type start size next : ℕ} (e : comes_at text at ≡ Read kind type start size next) where
-    pub tells_left : kind ≡ 2 → add ≡ false → LeftOut next ≡ next_step entries added add text at
-    tells_left k out = sym (sym (tells e) ∙ rw (eq-eqb kind 2 k, out))
-
-    module _ (adds : kind ≡ 2 → add ≡ true) {answer : StepAnswer} (said : answer ≡ step_answer (step_of entries added kind type (part start (start + size) text))) where
-      not_left : (eqb kind 2 && not add) ≡ false
-      not_left = go (eqb kind 2) refl
-        where
-          go : (b : Bool) → eqb kind 2 ≡ b → (b && not add) ≡ false
-          go true k = rw (adds (eqb-true kind 2 k))
-          go false k = refl
-
-      pub tells_unknown : answer ≡ Unknown → NotKnown ≡ next_step entries added add text at
-      tells_unknown u = sym (sym (tells e) ∙ rw (not_left, answer_none (step_of entries added kind type (part start (start + size) text)) (sym said ∙ u)))
-
-      pub tells_step : {s : Step} → answer ≡ Found s → Next s next ≡ next_step entries added add text at
-      tells_step f = sym (sym (tells e) ∙ rw (not_left, answer_found (step_of entries added kind type (part start (start + size) text)) (sym said ∙ f)))
-
--- ---- What it says
+use Rattle.process_plan.proofs.Piece.{listed_answer, steps_of, Unknown, Gives, piece_gives}
 
 -- A piece with these steps comes after those passed, and `next` is the place after it.
 pub record Passed (entries added : List ℕ) (add : Bool) (text : List ℕ) (at : ℕ) (passed : List Piece) (steps : List Step) (next : ℕ) : Type 0 where
@@ -64,60 +29,36 @@ pub record Passed (entries added : List ℕ) (add : Bool) (text : List ℕ) (at 
 
 -- A special piece comes whose id is unknown, though it is needed.
 pub record NoStep (entries added : List ℕ) (add : Bool) (text : List ℕ) (passed : List Piece) : Type 0 where
-  pub place : ℕ
-  pub id : List ℕ
-  pub type : ℕ
+  pub piece : Piece
+  pub unknown : Unknown entries added add piece
   pub next : ℕ
-  pub walked : Walked text next (passed ++ (special place id type ∷ []))
-  pub adds : add ≡ true
-  pub missing : special_step entries added type id ≡ nothing
+  pub walked : Walked text next (passed ++ (piece ∷ []))
 
-abbrev pub Says : List ℕ → List ℕ → Bool → List ℕ → ℕ → List Piece → NextStep → Type 0
-Says entries added add text at passed Ended = read_parts 0 0 (parts text) ≡ reads passed
-Says entries added add text at passed (Unreadable fault) = read_parts 0 0 (parts text) ≡ unread (PartUnreadable fault)
-Says entries added add text at passed NotKnown = NoStep entries added add text passed
-Says entries added add text at passed (LeftOut n) = Passed entries added add text at passed [] n
-Says entries added add text at passed (Next s n) = Passed entries added add text at passed (s ∷ []) n
+-- the part there cannot be read, or the piece is such a one
+pub data Refused (entries added : List ℕ) (add : Bool) (text : List ℕ) (passed : List Piece) : Type 0 where
+  unreadable : {why : Refusal} → read_parts 0 0 (parts text) ≡ unread why → Refused entries added add text passed
+  no_step : NoStep entries added add text passed → Refused entries added add text passed
+
+abbrev pub Says : List ℕ → List ℕ → Bool → List ℕ → ℕ → List Piece → Result (Answer NextStep) Refusal → Type 0
+Says entries added add text at passed (Err why) = Refused entries added add text passed
+Says entries added add text at passed (Ok None) = read_parts 0 0 (parts text) ≡ reads passed
+Says entries added add text at passed (Ok (Some coming)) = Passed entries added add text at passed (listed_answer coming.step) coming.next
 
 module _ (entries added : List ℕ) (add : Bool) {text : List ℕ} {at : ℕ} {passed : List Piece} where
-  module _ {kind type start size next : ℕ} (p : Passing text at passed kind type start size next) where
-    abbrev id : List ℕ
-    id = part start (start + size) text
+  says_piece : {step : PieceStep} (p : Passing text at passed step) (r : Result (Answer Step) Refusal) → Gives entries added add p.piece r → Says entries added add text at passed (with_next step.next r)
+  says_piece {step} p (Err why) u = no_step (record { piece = p.piece; unknown = u; next = step.next; walked = p.walked })
+  says_piece p (Ok None) e = record { piece = p.piece; steps_are = e; walked = p.walked; less = p.less; few = p.few }
+  says_piece p (Ok (Some s)) e = record { piece = p.piece; steps_are = e; walked = p.walked; less = p.less; few = p.few }
 
-    stepped : {steps : List Step} → steps_of entries added add p.piece ≡ steps → Passed entries added add text at passed steps next
-    stepped e = record { piece = p.piece; steps_are = e; walked = p.walked; less = p.less; few = p.few }
-
-    says_left : kind ≡ 2 → add ≡ false → Passed entries added add text at passed [] next
-    says_left k out = stepped (ap (steps_of entries added add) (kind_special p.piece p.is k) ∙ rw out)
-
-    says_step : (kind ≡ 2 → add ≡ true) → (o : Option Step) → step_of entries added kind type id ≡ o → Says entries added add text at passed (known_step next o)
-    unfolding step_answer
-    says_step adds (some s) e = stepped (piece_step entries added add p.piece p.is adds (ap step_answer e))
-    says_step adds nothing e =
-        let (k, none) = piece_unknown entries added p.piece p.is (ap step_answer e) in
-        record {
-          place = start;
-          id = id;
-          type = type;
-          next = next;
-          walked = subst (λ (q : Piece). Walked text next (passed ++ (q ∷ []))) (kind_special p.piece p.is k) p.walked;
-          adds = adds k;
-          missing = none;
-        }
-
-    says_piece : Says entries added add text at passed (coming_step entries added add text (Read kind type start size next))
-    says_piece = go (eqb kind 2) refl add refl
-      where
-        go : (b : Bool) → eqb kind 2 ≡ b → (a : Bool) → add ≡ a → Says entries added add text at passed (cond (b && not a) (LeftOut next) (known_step next (step_of entries added kind type id)))
-        go true k true a = says_step (λ _. a) (step_of entries added kind type id) refl
-        go true k false a = says_left (eqb-true kind 2 k) a
-        go false k b a = says_step (λ e. absurd (eqb-false kind 2 k e)) (step_of entries added kind type id) refl
-
-  pub next_says : Walked text at passed → {r : NextStep} → r ≡ next_step entries added add text at → Says entries added add text at passed r
+  pub next_says : Walked text at passed → {r : Result (Answer NextStep) Refusal} → next_step entries added add text at ≡ r → Says entries added add text at passed r
   unfolding next_step
-  next_says w e = subst (Says entries added add text at passed) (sym e) (go (comes_at text at) refl)
+  next_says w e = subst (Says entries added add text at passed) e (go (comes_at text at) refl)
     where
-      go : (c : PieceStep) → comes_at text at ≡ c → Says entries added add text at passed (coming_step entries added add text c)
-      go End e = comes w e
-      go (NotRead fault) e = comes w e
-      go (Read kind type start size next) e = says_piece (comes w e)
+      go : (c : Coming) → comes_at text at ≡ c → Says entries added add text at passed (coming_step entries added add text c)
+      go (Err why) e = unreadable (comes w e)
+      go (Ok None) e = comes w e
+      go (Ok (Some step)) e = let p = comes w e in says_piece p (step_of entries added add text step.piece) (piece_gives entries added add p.piece p.is)
+
+  -- a piece, by its step if it has one
+  pub says_step : Walked text at passed → {coming : NextStep} {step : Answer Step} → next_step entries added add text at ≡ Ok (Some coming) → coming.step ≡ step → Passed entries added add text at passed (listed_answer step) coming.next
+  says_step w {coming} e is = subst (λ (o : Answer Step). Passed entries added add text at passed (listed_answer o) coming.next) is (next_says w e)

@@ -1,69 +1,56 @@
--- The steps of a piece that was read, by its numbers: one, or none for a special piece that is left out.
+-- The steps of a piece that was read: one, or none for a special piece that is left out.
 -- Assumes nothing.
-use mathlib.Core.Path.{◌≡◌, refl, ap, sym, ◌∙◌}
-use mathlib.Core.Bool.{Bool, true, cond}
+use mathlib.Core.Path.{◌≡◌, refl, ap, sym, subst, ◌∙◌}
+use mathlib.Core.Bool.{Bool, true, false, cond}
 use mathlib.Core.Option.{Option, none as nothing, some, map}
 use mathlib.Core.List.{List, [], ◌∷◌}
-use Prim.Native.Nat.{ℕ, ◌+◌}
-use native.Mathlib.Omega.{arith}
-use lib.ListN.{get_or}
-use borrow.Author.Tests.{eq-eqb, ne_eqb}
-use Rattle.lookup_ranges.specs.First.{last_from, part}
-use Rattle.template_pieces.specs.Piece.{Piece, sequence_a, sequence_b, special, piece_numbers}
-use Rattle.template_pieces.proofs.Lies.{PieceIs, kind_special}
+use Prim.Native.Nat.{ℕ, ◌+◌, ◌-◌, ◌≤◌}
+use native.Mathlib.Nat.{add-sub_cancel_left}
+use lib.ListN.{length, take, drop}
+use Rattle.std.specs.Prelude.{Option as Answer, Some, None, Result, Ok, Err}
+use Rattle.record.specs.declared.Refusal.{Refusal}
+use Rattle.record.specs.declared.Refusal.TheVariants.{SpecialIdUnknown}
+use Rattle.lookup_ranges.specs.First.{last_from}
+use Rattle.template_pieces.specs.Piece.{Piece, sequence_a, sequence_b, special, piece_told}
+use Rattle.template_pieces.specs.declared.Piece.{Piece as PieceRead}
+use Rattle.template_pieces.specs.declared.Name.{Name}
+use Rattle.template_pieces.specs.declared.Name.TheVariants.{A, B, Special as SpecialName}
+use Rattle.template_pieces.proofs.Lies.{Lies, PieceIs}
 use Rattle.template_entries.specs.Table.{Special as SpecialId, entries_in}
 use Rattle.template_entries.proofs.Sound.{TableHolds}
 use Rattle.template_find.specs.Last.{last_with}
 use Rattle.template_find.proofs.Found.{missing}
 use Rattle.template_find.specs.Promises.{entry_has_id, entry_answer}
-use Rattle.template_find.specs.declared.FoundEntry.TheVariants.{Unknown as NotFound, At}
 use Rattle.process_steps.specs.declared.Step.{Step}
 use Rattle.process_steps.specs.declared.Step.TheVariants.{First, Second, Special}
-use Rattle.process_plan.specs.Promises.{special_step, step_of, step_answer}
-use Rattle.process_plan.specs.declared.StepAnswer.TheVariants.{Unknown, Found}
+use Rattle.process_plan.specs.Promises.{special_step, known_step, step_of, IdInside}
 
--- ---- The answer, kind by kind
+-- an id lies in the text, where that is known of a special piece
+pub id_inside : (text : List ℕ) (name : Name) → ((start size : ℕ) → name ≡ SpecialName start size → start + size ≤ length text) → IdInside text name
+id_inside text A h = tt
+id_inside text B h = tt
+id_inside text (SpecialName start size) h = h start size refl
 
--- an entry that was not found, or was
-step_unknown : (t : ℕ) (o : Option ℕ) → entry_answer o ≡ NotFound → Unknown ≡ step_answer (map (Special t) o)
-unfolding entry_answer step_answer
-step_unknown t nothing e = refl
-step_unknown t (some j) e = cc
+-- ---- The step of a special id, by the entry that was found
 
-step_found : (t : ℕ) (o : Option ℕ) {k : ℕ} → entry_answer o ≡ At k → Found (Special t k) ≡ step_answer (map (Special t) o)
-unfolding entry_answer step_answer
-step_found t nothing e = cc
-step_found t (some j) {k} e = let here : k ≡ j = cc in rw here
+module _ (entries added : List ℕ) (t : ℕ) (id : List ℕ) where
+  found_none : (o : Option ℕ) → entry_answer o ≡ None → known_step (map (Special t) o) ≡ Err SpecialIdUnknown
+  unfolding entry_answer
+  found_none nothing e = refl
+  found_none (some j) e = cc
 
-module _ (entries added : List ℕ) {kind : ℕ} (t : ℕ) (id : List ℕ) where
-  pub answer_a : kind ≡ 0 → Found (First t) ≡ step_answer (step_of entries added kind t id)
-  unfolding step_of step_answer
-  answer_a e = rw (eq-eqb kind 0 e)
+  found_some : (o : Option ℕ) {k : ℕ} → entry_answer o ≡ Some k → known_step (map (Special t) o) ≡ Ok (Some (Special t k))
+  unfolding entry_answer
+  found_some nothing e = cc
+  found_some (some j) {k} e = let here : j ≡ k = cc in rw here refl
 
-  module _ (a : kind ≡ 0 → ⊥) where
-    pub answer_b : kind ≡ 1 → Found (Second t) ≡ step_answer (step_of entries added kind t id)
-    unfolding step_of step_answer
-    answer_b e = rw (ne_eqb kind 0 a, eq-eqb kind 1 e)
+  pub step_unknown : entry_answer (last_from (entry_has_id added id) 0 (entries_in entries)) ≡ None → known_step (special_step entries added t id) ≡ Err SpecialIdUnknown
+  unfolding special_step
+  step_unknown e = found_none (last_from (entry_has_id added id) 0 (entries_in entries)) e
 
-    module _ (b : kind ≡ 1 → ⊥) where
-      pub answer_unknown : entry_answer (last_from (entry_has_id added id) 0 (entries_in entries)) ≡ NotFound → Unknown ≡ step_answer (step_of entries added kind t id)
-      unfolding step_of special_step
-      answer_unknown e = rw (ne_eqb kind 0 a, ne_eqb kind 1 b) (step_unknown t (last_from (entry_has_id added id) 0 (entries_in entries)) e)
-
-      pub answer_entry : {k : ℕ} → entry_answer (last_from (entry_has_id added id) 0 (entries_in entries)) ≡ At k → Found (Special t k) ≡ step_answer (step_of entries added kind t id)
-      unfolding step_of special_step
-      answer_entry e = rw (ne_eqb kind 0 a, ne_eqb kind 1 b) (step_found t (last_from (entry_has_id added id) 0 (entries_in entries)) e)
-
--- what the answer says of the step
-pub answer_found : (o : Option Step) {s : Step} → step_answer o ≡ Found s → o ≡ some s
-unfolding step_answer
-answer_found nothing e = cc
-answer_found (some s) e = cc
-
-pub answer_none : (o : Option Step) → step_answer o ≡ Unknown → o ≡ nothing
-unfolding step_answer
-answer_none nothing e = refl
-answer_none (some s) e = cc
+  pub step_found : {k : ℕ} → entry_answer (last_from (entry_has_id added id) 0 (entries_in entries)) ≡ Some k → known_step (special_step entries added t id) ≡ Ok (Some (Special t k))
+  unfolding special_step
+  step_found e = found_some (last_from (entry_has_id added id) 0 (entries_in entries)) e
 
 -- an id without a step is in no table with these entries
 pub not_there : {entries members added : List ℕ} {table : List SpecialId} → TableHolds entries members added table → (t : ℕ) (id : List ℕ) → special_step entries added t id ≡ nothing → last_with id table ≡ nothing
@@ -81,13 +68,9 @@ abbrev pub listed : Option Step → List Step
 listed nothing = []
 listed (some s) = s ∷ []
 
--- the numbers of a piece
-module _ {text : List ℕ} {kind type start size : ℕ} {p : Piece} (is : PieceIs text kind type start size p) where
-  kind_is : kind ≡ get_or (piece_numbers p) 0 0
-  kind_is = sym (ap (λ (l : List ℕ). get_or l 0 0) is.numbers)
-
-  type_is : type ≡ get_or (piece_numbers p) 1 0
-  type_is = sym (ap (λ (l : List ℕ). get_or l 1 0) is.numbers)
+abbrev pub listed_answer : Answer Step → List Step
+listed_answer None = []
+listed_answer (Some s) = s ∷ []
 
 module _ (entries added : List ℕ) where
   -- a special piece is a step only if special tokens are added
@@ -96,25 +79,36 @@ module _ (entries added : List ℕ) where
   steps_of add (sequence_b t) = Second t ∷ []
   steps_of add (special start id t) = cond add (listed (special_step entries added t id)) []
 
-  module _ {text : List ℕ} {kind type start size : ℕ} where
-    -- the step that the numbers of a piece give
-    pub piece_step : (add : Bool) (p : Piece) → PieceIs text kind type start size p → (kind ≡ 2 → add ≡ true) → {s : Step} → step_answer (step_of entries added kind type (part start (start + size) text)) ≡ Found s → steps_of add p ≡ s ∷ []
-    unfolding step_of
-    piece_step add (sequence_a t) is adds e = ap listed (rw (kind_is is, type_is is) at (answer_found (step_of entries added kind type (part start (start + size) text)) e))
-    piece_step add (sequence_b t) is adds e = ap listed (rw (kind_is is, type_is is) at (answer_found (step_of entries added kind type (part start (start + size) text)) e))
-    piece_step add (special place id t) is adds {s} e =
-        let step : special_step entries added type (part start (start + size) text) ≡ some s = rw (kind_is is) at (answer_found (step_of entries added kind type (part start (start + size) text)) e) in
-        ap (steps_of add) (kind_special (special place id t) is (kind_is is)) ∙ rw (adds (kind_is is), step)
+  -- A special piece whose id is unknown, though it is needed.
+  pub record Unknown (add : Bool) (p : Piece) : Type 0 where
+    pub place : ℕ
+    pub id : List ℕ
+    pub type : ℕ
+    pub is : p ≡ special place id type
+    pub adds : add ≡ true
+    pub missing : special_step entries added type id ≡ nothing
 
-    -- only a special piece has no step
-    pub piece_unknown : (p : Piece) → PieceIs text kind type start size p → step_answer (step_of entries added kind type (part start (start + size) text)) ≡ Unknown → (kind ≡ 2) × (special_step entries added type (part start (start + size) text) ≡ nothing)
-    unfolding step_of
-    piece_unknown (sequence_a t) is e =
-        let none : some (First type) ≡ nothing = rw (kind_is is) at (answer_none (step_of entries added kind type (part start (start + size) text)) e) in
-        let z : ◌≡◌ {A = ℕ} 0 1 = cc in
-        absurd (omega arith)
-    piece_unknown (sequence_b t) is e =
-        let none : some (Second type) ≡ nothing = rw (kind_is is) at (answer_none (step_of entries added kind type (part start (start + size) text)) e) in
-        let z : ◌≡◌ {A = ℕ} 0 1 = cc in
-        absurd (omega arith)
-    piece_unknown (special place id t) is e = (kind_is is, rw (kind_is is) at (answer_none (step_of entries added kind type (part start (start + size) text)) e))
+  -- what a step says of the piece
+  abbrev pub Gives : Bool → Piece → Result (Answer Step) Refusal → Type 0
+  Gives add p (Err why) = Unknown add p
+  Gives add p (Ok None) = steps_of add p ≡ []
+  Gives add p (Ok (Some s)) = steps_of add p ≡ s ∷ []
+
+  special_gives : (add : Bool) (start : ℕ) (id : List ℕ) (t : ℕ) → Gives add (special start id t) (cond add (known_step (special_step entries added t id)) (Ok None))
+  special_gives false start id t = refl
+  special_gives true start id t = go (special_step entries added t id) refl
+    where
+      go : (o : Option Step) → special_step entries added t id ≡ o → Gives true (special start id t) (known_step o)
+      go nothing e = record { place = start; id = id; type = t; is = refl; adds = refl; missing = e }
+      go (some s) e = ap listed e
+
+  pub piece_gives : (add : Bool) {text : List ℕ} {told : PieceRead} (p : Piece) → PieceIs text told p → Gives add p (step_of entries added add text told)
+  unfolding step_of
+  piece_gives add {text} {told} p is = subst (λ (q : PieceRead). Gives add p (step_of entries added add text q)) is.same (go p is.lies_there)
+    where
+      go : (p : Piece) → Lies text p → Gives add p (step_of entries added add text (piece_told p))
+      go (sequence_a t) l = refl
+      go (sequence_b t) l = refl
+      go (special start id t) l =
+          let lies : take (start + length id - start) (drop start text) ≡ id = ap (λ (n : ℕ). take n (drop start text)) (add-sub_cancel_left start (length id)) ∙ l.1 in
+          subst (λ (xs : List ℕ). Gives add (special start id t) (cond add (known_step (special_step entries added t xs)) (Ok None))) (sym lies) (special_gives add start id t)

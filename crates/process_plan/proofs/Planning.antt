@@ -9,24 +9,24 @@ use native.Mathlib.Omega.{arith}
 use lib.ListN.{length, drop, length-append}
 use lib.Seq.{sets, length-sets}
 use Rattle.record.specs.Read.{all_ok}
-use Rattle.record.specs.declared.Fault.{Fault}
-use Rattle.record.specs.declared.Refusal.TheVariants.{PartUnreadable, SpecialIdUnknown}
+use Rattle.std.specs.Prelude.{Ok, Err}
+use Rattle.record.specs.declared.Refusal.{Refusal}
+use Rattle.template_entries.specs.Table.{Special as SpecialId}
 use Rattle.lists.proofs.Sets.{sets_append, sets_over}
 use Rattle.template_parts.specs.Parts.{parts}
 use Rattle.template_pieces.specs.Piece.{Piece, special}
-use Rattle.template_text.specs.Template.{most_parts, piece_width, unread, reads, read_parts}
+use Rattle.template_text.specs.Template.{most_parts, piece_width, reads, read_parts}
 use Rattle.template_text.proofs.Answers.{short_is, template_holds}
 use Rattle.template_text.proofs.Walked.{Walked, walked_start, walked_first}
 use Rattle.template_find.specs.Last.{last_with}
 use Rattle.template_entries.proofs.Sound.{table_holds}
-use Rattle.process_plan.proofs.Next.{Passed, NoStep}
+use Rattle.process_plan.proofs.Next.{Passed, Refused, unreadable, no_step}
 use Rattle.lists.proofs.FlatMap.{flat_map_append}
-use Rattle.template_known.specs.Known.{is_there, known}
+use Rattle.template_known.specs.Known.{known}
 use Rattle.process_steps.specs.declared.Step.{Step}
 use Rattle.process_steps.specs.Steps.{step_numbers}
 use Rattle.process_steps.proofs.Steps.{length_steps}
 use Rattle.process_plan.specs.Promises.{AskPlan, Plans}
-use Rattle.process_plan.specs.declared.PlanAnswer.TheVariants.{Refused, Steps}
 use Rattle.process_plan.proofs.Piece.{steps_of, not_there}
 use Rattle.process_plan.proofs.Joined.{steps_few, steps_fine, steps_made}
 
@@ -49,6 +49,11 @@ holds_of t (q ∷ ps) p qs e = holds_of t ps p qs (go (t q) e)
     go : (b : Bool) → (b && all_ok t (ps ++ (p ∷ qs))) ≡ true → all_ok t (ps ++ (p ∷ qs)) ≡ true
     go true e = e
     go false e = cc
+
+-- a special piece is not known if its id is unknown
+lacking : (table : List SpecialId) {place : ℕ} (id : List ℕ) {type : ℕ} (p : Piece) → p ≡ special place id type → last_with id table ≡ nothing → known table p ≡ true → ⊥
+unfolding known
+lacking table id p is none e = let not_known : false ≡ true = rw (is, none) at e in let z : ◌≡◌ {A = ℕ} 0 1 = cc in omega arith
 
 -- ---- Planning
 
@@ -75,7 +80,7 @@ module _ {text : List ℕ} {add : Bool} {entries added steps : List ℕ} {at cou
     few : length planned ≤ most_parts
     few = omega (arith, steps_few entries added add g.passed, g.walked.number, (short_is text ask.is_short).1)
 
-    pub plan_end : read_parts 0 0 (parts text) ≡ reads g.passed → Plans text add entries added (Steps count) steps'
+    pub plan_end : read_parts 0 0 (parts text) ≡ reads g.passed → Plans text add entries added (Ok count) steps'
     plan_end e members table pieces t r all =
         let h = table_holds entries members added t in
         let whole : read_parts 0 0 (parts text) ≡ reads pieces = template_holds text r in
@@ -83,7 +88,7 @@ module _ {text : List ℕ} {add : Bool} {entries added steps : List ℕ} {at cou
         rw same
         (record {
           planned = planned;
-          answers = ap Steps g.counted;
+          answers = ap Ok g.counted;
           few = few;
           numbers =
               record {
@@ -94,24 +99,19 @@ module _ {text : List ℕ} {add : Bool} {entries added steps : List ℕ} {at cou
           made = λ E second lacks. steps_made h second E add g.passed lacks;
         })
 
-  -- a part that cannot be read
-  pub plan_bad : {fault : Fault} → read_parts 0 0 (parts text) ≡ unread (PartUnreadable fault) → Plans text add entries added (Refused (PartUnreadable fault)) steps'
-  plan_bad none members table pieces t r all =
+  -- a part that cannot be read, or a special id that is unknown
+  pub plan_refused : Refused entries added add text g.passed → {why : Refusal} → Plans text add entries added (Err why) steps'
+  plan_refused (unreadable none) members table pieces t r all =
       let whole : read_parts 0 0 (parts text) ≡ reads pieces = template_holds text r in
       let z : ◌≡◌ {A = ℕ} 0 1 = cc in
       absurd (omega arith)
-
-  -- a special id that is unknown
-  pub plan_unknown : NoStep entries added add text g.passed → Plans text add entries added (Refused SpecialIdUnknown) steps'
-  unfolding known
-  plan_unknown u members table pieces t q all =
-      let piece = special u.place u.id u.type in
-      let first = walked_first u.walked (template_holds text q) in
-      let known_all : all_ok (known table) (g.passed ++ (piece ∷ first.0)) ≡ true = rw (first.1, append_assoc) at (all u.adds) in
+  plan_refused (no_step s) members table pieces t q all =
+      let u = s.unknown in
+      let first = walked_first s.walked (template_holds text q) in
+      let known_all : all_ok (known table) (g.passed ++ (s.piece ∷ first.0)) ≡ true = rw (first.1, append_assoc) at (all u.adds) in
       let none : last_with u.id table ≡ nothing = not_there (table_holds entries members added t) u.type u.id u.missing in
-      let known_one : is_there (last_with u.id table) ≡ true = holds_of (known table) g.passed piece first.0 known_all in
-      let z : ◌≡◌ {A = ℕ} 0 1 = cc in
-      absurd (omega arith)
+      let known_one : known table s.piece ≡ true = holds_of (known table) g.passed s.piece first.0 known_all in
+      absurd (lacking table u.id s.piece u.is none known_one)
 
   module _ {new : List Step} {next : ℕ} (p : Passed entries added add text at g.passed new next) where
     pub plan_few : AskPlan text entries added steps → count < most_parts

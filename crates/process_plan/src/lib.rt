@@ -2,48 +2,29 @@
 #![tactic(auto)]
 
 ghost use Rattle.std.specs.Prelude.{◌≡◌};
-ghost use Rattle.process_plan.specs.Promises.{step_of, step_answer, next_step, TableFits, AskPlan, Plans};
+ghost use Rattle.process_plan.specs.Promises.{step_of, next_step, TableFits, AskStep, AskPlan, Plans};
 
 use process_steps::Step;
-use record::{Fault, Refusal};
-use template_find::FoundEntry;
-use template_pieces::Kind;
-use template_text::PieceStep;
+use record::Refusal;
+use template_pieces::{Name, Piece};
 
-// Refused, or so many steps.
+// The step of a piece that comes, none if it is left out, and the place after it.
 #[derive(Clone, Copy)]
-pub enum PlanAnswer {
-    Refused(Refusal),
-    Steps(usize),
+pub struct NextStep {
+    pub step: Option<Step>,
+    pub next: usize,
 }
 
-// What comes at a place to the plan: the end, a part that cannot be read, a piece whose special id is unknown; a piece that is
-// left out, or that has a step, and the place after it.
-#[derive(Clone, Copy)]
-pub enum NextStep {
-    Ended,
-    Unreadable(Fault),
-    NotKnown,
-    LeftOut(usize),
-    Next(Step, usize),
-}
-
-// The step of a piece, unless it is a special one whose id is unknown.
-#[derive(Clone, Copy)]
-pub enum StepAnswer {
-    Unknown,
-    Found(Step),
-}
-
-// The steps of a template, one after another from the first place on: its pieces, with the number of an entry in the place of
-// a special id. A special piece is a step only if special tokens are added.
+// The steps of a template, one after another from the first place on, and how many: its pieces, with the number of an entry in the
+// place of a special id. A special piece is a step only if special tokens are added. Refused with 19 to 21 for a part that cannot
+// be read, and with 10 for an unknown special id.
 pub fn plan(
     text: &[u8],
     add_special_tokens: bool,
     entries: &[u32],
     added: &[u8],
     steps: &mut [u32],
-) -> PlanAnswer
+) -> Result<usize, Refusal>
     requires { AskPlan text.now entries.now added.now steps.old }
     ensures { Plans text.now add_special_tokens entries.now added.now result
         steps.new }
@@ -51,71 +32,63 @@ pub fn plan(
     let mut at: usize = 0;
     let mut count: usize = 0;
     loop {
-        match next_step(text, at, add_special_tokens, entries, added) {
-            NextStep::Ended => return PlanAnswer::Steps(count),
-            NextStep::Unreadable(fault) => {
-                return PlanAnswer::Refused(Refusal::PartUnreadable(fault));
-            }
-            NextStep::NotKnown => return PlanAnswer::Refused(Refusal::SpecialIdUnknown),
-            NextStep::LeftOut(next) => at = next,
-            NextStep::Next(step, next) => {
-                process_steps::write_step(steps, count, step);
-                count += 1;
-                at = next;
-            }
+        let Some(coming) = next_step(text, at, add_special_tokens, entries, added)? else {
+            return Ok(count);
+        };
+        if let Some(step) = coming.step {
+            process_steps::write_step(steps, count, step);
+            count += 1;
         }
+        at = coming.next;
     }
 }
 
-// What comes at a place of a template to its plan.
+// What comes at a place of a template to its plan; nothing at its end.
 fn next_step(
     text: &[u8],
     at: usize,
     add_special_tokens: bool,
     entries: &[u32],
     added: &[u8],
-) -> NextStep
+) -> Result<Option<NextStep>, Refusal>
     requires { TableFits entries.now added.now }
     ensures { result ≡ next_step entries.now added.now add_special_tokens text.now at }
 {
-    let coming = template_text::piece_from(text, at);
-    let PieceStep::Read {
-        kind,
-        type_id,
-        start,
-        length,
-        next,
-    } = coming
-    else {
-        let PieceStep::Unreadable(fault) = coming else {
-            return NextStep::Ended;
-        };
-        return NextStep::Unreadable(fault);
+    let Some(coming) = template_text::piece_from(text, at)? else {
+        return Ok(None);
     };
-    if kind == Kind::SPECIAL && !add_special_tokens {
-        return NextStep::LeftOut(next);
-    }
-    let id = &text[start..start + length];
-    let StepAnswer::Found(step) = step_of(kind, type_id, entries, added, id) else {
-        return NextStep::NotKnown;
-    };
-    NextStep::Next(step, next)
+    let step = step_of(text, coming.piece, add_special_tokens, entries, added)?;
+    Ok(Some(NextStep {
+        step,
+        next: coming.next,
+    }))
 }
 
-// The step of a piece of a kind: of a sequence, or of the entry of a special id, whose number has room in a step because the
-// entries are few.
-fn step_of(kind: u32, type_id: u32, entries: &[u32], added: &[u8], id: &[u8]) -> StepAnswer
-    requires { TableFits entries.now added.now }
-    ensures { result ≡ step_answer (step_of entries.now added.now kind type_id id.now) }
+// The step of a piece: of a sequence, or of the entry of a special id, whose number has room in a step because the entries are
+// few; none for a special piece if no special tokens are added.
+fn step_of(
+    text: &[u8],
+    piece: Piece,
+    add_special_tokens: bool,
+    entries: &[u32],
+    added: &[u8],
+) -> Result<Option<Step>, Refusal>
+    requires { AskStep text.now piece entries.now added.now }
+    ensures { result ≡ step_of entries.now added.now add_special_tokens text.now piece }
 {
-    if kind == Kind::A {
-        return StepAnswer::Found(Step::First(type_id));
+    let type_id = piece.type_id;
+    match piece.name {
+        Name::A => Ok(Some(Step::First(type_id))),
+        Name::B => Ok(Some(Step::Second(type_id))),
+        Name::Special { start, length } => {
+            if !add_special_tokens {
+                return Ok(None);
+            }
+            let id = &text[start..start + length];
+            let Some(i) = template_find::find(entries, added, id) else {
+                return Err(Refusal::SpecialIdUnknown);
+            };
+            Ok(Some(Step::Special(type_id, i as u32)))
+        }
     }
-    if kind == Kind::B {
-        return StepAnswer::Found(Step::Second(type_id));
-    }
-    let FoundEntry::At(i) = template_find::find(entries, added, id) else {
-        return StepAnswer::Unknown;
-    };
-    StepAnswer::Found(Step::Special(type_id, i as u32))
 }

@@ -5,8 +5,8 @@ use lib.ListN.{length}
 use Rattle.process_plan.proofs.Planning.{Planning}
 use Rattle.process_plan.proofs.plan.Given as goal
 
-abbrev pub invariant-loop-fault : goal.invariant-loop-fault
-invariant-loop-fault l = Planning l.text l.add_special_tokens l.entries l.added l.initial.steps l.at l.count l.steps
+abbrev pub invariant-loop-coming : goal.invariant-loop-coming
+invariant-loop-coming l = Planning l.text l.add_special_tokens l.entries l.added l.initial.steps l.at l.count l.steps
 
-abbrev pub decreases-loop-fault : goal.decreases-loop-fault
-decreases-loop-fault l = length l.text + 1 - l.at
+abbrev pub decreases-loop-coming : goal.decreases-loop-coming
+decreases-loop-coming l = length l.text + 1 - l.at
