@@ -52,5 +52,5 @@ module _ {g : Bool} {A A' B B' C C' : List ℕ} where
           → Called g B B' C C' bc bc_rows bc' bc_rows' w → Next w bc' bc_rows' (λ k. Stopped k (Ok (record { nodes = i; rows = j })) right right_rows right' right_rows') (λ xs rs. Called g A A' xs rs right right_rows right' right_rows' (Ok (record { nodes = i; rows = j })))
           → SameBothWays A A' B B' C C' left' left_rows' right' right_rows' n m i j
       go (Err k) w c s d t = absurd (let z : ◌≡◌ {A = ℕ} 0 1 = cc s.answers in omega arith)
-      go (Ok (record { nodes = a; rows = b })) (Err k) c s d t = absurd (let z : ◌≡◌ {A = ℕ} 0 1 = cc t.answers in omega arith)
-      go (Ok (record { nodes = a; rows = b })) (Ok (record { nodes = e; rows = f })) c s d t = four_same (record { a_with_b = call c a b refl; ab_with_c = call s n m refl; b_with_c = call d e f refl; a_with_bc = call t i j refl })
+      go (Ok v) (Err k) c s d t = absurd (let z : ◌≡◌ {A = ℕ} 0 1 = cc t.answers in omega arith)
+      go (Ok v) (Ok w) c s d t = four_same (record { a_with_b = call c v.nodes v.rows refl; ab_with_c = call s n m refl; b_with_c = call d w.nodes w.rows refl; a_with_bc = call t i j refl })

@@ -4,7 +4,7 @@
 
 ghost use Rattle.join_grouping.specs.Grouping.{BothWays};
 
-use record::Written;
+use record::{Refusal, Written};
 
 // What each way answers.
 #[derive(Clone, Copy)]

@@ -15,4 +15,4 @@ pub record Stopped (k : Refusal) (answer : Result Written Refusal) (nodes rows n
 -- the first one's output as its answer tells.
 abbrev pub Next : Result Written Refusal → List ℕ → List ℕ → (Refusal → Type 0) → (List ℕ → List ℕ → Type 0) → Type 0
 Next (Err k) nodes rows stopped called = stopped k
-Next (Ok (record { nodes = n; rows = m })) nodes rows stopped called = called (take (n * node_width) nodes) (take (m * row_width) rows)
+Next (Ok w) nodes rows stopped called = called (take (w.nodes * node_width) nodes) (take (w.rows * row_width) rows)

@@ -3,7 +3,7 @@
 
 ghost use Rattle.join_next.specs.Promises.{StoreHolds, ThenLeft, ThenRight};
 
-use record::{Encoding, Written};
+use record::{Encoding, Refusal, Written};
 
 // What the first call left with C. Answers with the refusal of the first call, if it was refused.
 pub fn then_left(
@@ -21,22 +21,16 @@ pub fn then_left(
         c_rows.now out_nodes.old out_rows.old out_nodes.new
         out_rows.new result }
 {
-    match first {
-        Err(why) => Err(why),
-        Ok(Written { nodes, rows }) => {
-            let node_end = nodes * Encoding::NODE_WIDTH;
-            let row_end = rows * Encoding::ROW_WIDTH;
-            join::merge_with(
-                &ab_nodes[..node_end],
-                &ab_rows[..row_end],
-                c_nodes,
-                c_rows,
-                growing,
-                out_nodes,
-                out_rows,
-            )
-        }
-    }
+    let Written { nodes, rows } = first?;
+    join::merge_with(
+        &ab_nodes[..nodes * Encoding::NODE_WIDTH],
+        &ab_rows[..rows * Encoding::ROW_WIDTH],
+        c_nodes,
+        c_rows,
+        growing,
+        out_nodes,
+        out_rows,
+    )
 }
 
 // A with what the first call left. Answers with the refusal of the first call, if it was refused.
@@ -55,20 +49,14 @@ pub fn then_right(
         bc_rows.now out_nodes.old out_rows.old out_nodes.new
         out_rows.new result }
 {
-    match first {
-        Err(why) => Err(why),
-        Ok(Written { nodes, rows }) => {
-            let node_end = nodes * Encoding::NODE_WIDTH;
-            let row_end = rows * Encoding::ROW_WIDTH;
-            join::merge_with(
-                a_nodes,
-                a_rows,
-                &bc_nodes[..node_end],
-                &bc_rows[..row_end],
-                growing,
-                out_nodes,
-                out_rows,
-            )
-        }
-    }
+    let Written { nodes, rows } = first?;
+    join::merge_with(
+        a_nodes,
+        a_rows,
+        &bc_nodes[..nodes * Encoding::NODE_WIDTH],
+        &bc_rows[..rows * Encoding::ROW_WIDTH],
+        growing,
+        out_nodes,
+        out_rows,
+    )
 }

@@ -4,7 +4,7 @@
 
 ghost use Rattle.join_three.specs.Ways.{LeftWay, RightWay};
 
-use record::Written;
+use record::{Refusal, Written};
 
 // A with B, into a store between the calls, and the result with C. Answers with the refusal of the first call that is refused.
 pub fn join_left(

@@ -1,23 +1,26 @@
 -- `then_right` makes the second call on what the first left, or answers with its refusal. Assumes nothing.
+use borrow.Author.Rules.{rules}
+use Rattle.std.specs.Prelude.{Err}
+use mathlib.Core.Path.{◌≡◌}
 use native.Mathlib.Omega.{arith}
 use lib.ListN.{length-take}
 use Rattle.join_next.proofs.Next.{right_stopped, right_called}
 use Rattle.join_next.proofs.then_right.Goals as goal
 
-pub overflow_mul-node_end : goal.overflow_mul-node_end
-overflow_mul-node_end c = omega (arith, c.requires.nodes_stand _ _ c.in-Done.is)
+pub returns-in_err-nodes : goal.returns-in_err-nodes
+returns-in_err-nodes c = let same : c.from_residual.result ≡ Err c.in_err-nodes.field-0.0 = search rules in rw same (right_stopped _ c.in_err-nodes.was)
 
-pub overflow_mul-row_end : goal.overflow_mul-row_end
-overflow_mul-row_end c = omega (arith, c.requires.rows_stand _ _ c.in-Done.is)
+pub overflow_mul-nodes : goal.overflow_mul-nodes
+overflow_mul-nodes c = let w = c.in_ok-nodes.field-0 in omega (arith, c.requires.nodes_stand w.nodes w.rows c.in_ok-nodes.was)
 
 pub slice_bounds-merge_with-end : goal.slice_bounds-merge_with-end
-slice_bounds-merge_with-end c = let h = c.requires.nodes_stand _ _ c.in-Done.is in simp length-take (omega arith)
+slice_bounds-merge_with-end c = let w = c.in_ok-nodes.field-0 in let h = c.requires.nodes_stand w.nodes w.rows c.in_ok-nodes.was in simp length-take (omega arith)
 
-pub slice_bounds-merge_with-end-in-Done : goal.slice_bounds-merge_with-end-in-Done
-slice_bounds-merge_with-end-in-Done c = let h = c.requires.rows_stand _ _ c.in-Done.is in simp length-take (omega arith)
+pub overflow_mul-rows : goal.overflow_mul-rows
+overflow_mul-rows c = let w = c.in_ok-nodes.field-0 in omega (arith, c.requires.rows_stand w.nodes w.rows c.in_ok-nodes.was)
 
-pub returns-in-Refused : goal.returns-in-Refused
-returns-in-Refused c = right_stopped _ c.in-Refused.is
+pub slice_bounds-merge_with-end-2 : goal.slice_bounds-merge_with-end-2
+slice_bounds-merge_with-end-2 c = let w = c.in_ok-nodes.field-0 in let h = c.requires.rows_stand w.nodes w.rows c.in_ok-nodes.was in simp length-take (omega arith)
 
-pub returns-in-Done : goal.returns-in-Done
-returns-in-Done c = right_called _ _ c.in-Done.is c.merge_with.ensures
+pub returns : goal.returns
+returns c = let w = c.in_ok-nodes.field-0 in right_called w.nodes w.rows c.in_ok-nodes.was c.merge_with.ensures
