@@ -19,82 +19,58 @@ pub struct Request {
     pub direction: Direction,
 }
 
-#[derive(Clone, Copy)]
-pub enum Asked {
-    BadLine,
-    Cut(Request),
-}
-
-// What a line asks: `rows max stride L` or `rows max stride R`.
-pub fn read_request(line: &[u8]) -> Asked
+// What a line asks: `rows max stride L` or `rows max stride R`. Nothing for any other line, which is bad.
+pub fn read_request(line: &[u8]) -> Option<Request>
     ensures { result ≡ asked_of line.now }
 {
-    let Number::Read {
-        value: rows,
-        next: second,
-    } = field(line, 0)
-    else {
-        return Asked::BadLine;
-    };
-    let Number::Read {
-        value: max,
-        next: third,
-    } = field(line, second)
-    else {
-        return Asked::BadLine;
-    };
-    let Number::Read {
-        value: stride,
-        next: last,
-    } = field(line, third)
-    else {
-        return Asked::BadLine;
-    };
+    let rows = field(line, 0)?;
+    let max = field(line, rows.next)?;
+    let stride = field(line, max.next)?;
+    let last = stride.next;
     if line.len() <= last {
-        return Asked::BadLine;
+        return None;
     }
     if line.len() - last > 1 {
-        return Asked::BadLine;
+        return None;
     }
     let letter = line[last];
     if letter == b'L' {
-        return few(rows, max, stride, Direction::Left);
+        return few(rows.value, max.value, stride.value, Direction::Left);
     }
     if letter == b'R' {
-        return few(rows, max, stride, Direction::Right);
+        return few(rows.value, max.value, stride.value, Direction::Right);
     }
-    Asked::BadLine
+    None
 }
 
 // The number at a place, and the place after the one space behind it.
-fn field(line: &[u8], at: usize) -> Number
+fn field(line: &[u8], at: usize) -> Option<Number>
     ensures { result ≡ field_at line.now at }
 {
-    let Number::Read { value, next } = lines::read_number(line, at) else {
-        return Number::Bad;
-    };
+    let number = lines::read_number(line, at)?;
+    let next = number.next;
     if next < line.len() {
         if line[next] == SPACE {
-            return Number::Read {
-                value,
+            return Some(Number {
                 next: next + 1,
-            };
+                ..number
+            });
         }
     }
-    Number::Bad
+    None
 }
 
 // A cut of no more rows than an encoding has.
-fn few(rows: u32, max: u32, stride: u32, direction: Direction) -> Asked
+fn few(rows: u32, max: u32, stride: u32, direction: Direction) -> Option<Request>
     ensures { result ≡ cut_within rows max stride direction }
 {
     if rows as usize <= Encoding::MOST_ROWS {
-        return Asked::Cut(Request {
+        return Some(Request {
             rows,
             max,
             stride,
             direction,
         });
     }
-    Asked::BadLine
+    None
 }
