@@ -27,8 +27,7 @@ fn in_order(nodes: &[u32], i: usize) -> bool
     ensures { result ≡ true → (row : ℕ) → holders row (ranges_at nodes.now i) ≤ 1 }
 {
     let mut end: u32 = 0;
-    let mut k: usize = 0;
-    while k < Encoding::SEQUENCES {
+    for k in 0..Encoding::SEQUENCES {
         let at = i + Encoding::RANGES + k * Encoding::RANGE_WIDTH;
         if nodes[at] == 1 {
             if nodes[at + 1] < end {
@@ -36,7 +35,6 @@ fn in_order(nodes: &[u32], i: usize) -> bool
             }
             end = end.max(nodes[at + 2]);
         }
-        k += 1;
     }
     true
 }

@@ -15,8 +15,7 @@ pub fn first_shared(nodes: &[u32], i: usize) -> u32
     ensures { FirstShared (ranges_at nodes.now i) (get_or nodes.now i 0) result }
 {
     let mut first = nodes[i];
-    let mut k: usize = 0;
-    while k < Encoding::SEQUENCES {
+    for k in 0..Encoding::SEQUENCES {
         let at = i + Encoding::RANGES + k * Encoding::RANGE_WIDTH;
         if nodes[at] == 1 {
             let start = nodes[at + 1];
@@ -26,7 +25,6 @@ pub fn first_shared(nodes: &[u32], i: usize) -> u32
                 }
             }
         }
-        k += 1;
     }
     first
 }
@@ -37,13 +35,11 @@ fn count_holding(nodes: &[u32], i: usize, row: u32) -> u32
     ensures { result ≡ holders row (ranges_at nodes.now i) }
 {
     let mut count: u32 = 0;
-    let mut k: usize = 0;
-    while k < Encoding::SEQUENCES {
+    for k in 0..Encoding::SEQUENCES {
         let at = i + Encoding::RANGES + k * Encoding::RANGE_WIDTH;
         if nodes[at] == 1 && nodes[at + 1] <= row && row < nodes[at + 2] {
             count += 1;
         }
-        k += 1;
     }
     count
 }

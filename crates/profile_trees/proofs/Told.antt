@@ -14,6 +14,7 @@ use Rattle.lists.specs.Lists.{All}
 use Rattle.lists.proofs.All.{all_imp}
 use Rattle.record.specs.Tree.{Forest}
 use Rattle.record.specs.Read.{Reading, malformed, holds, read, of_any}
+use Rattle.record.specs.declared.Refusal.{Refusal}
 use Rattle.record.specs.declared.Refusal.TheVariants.{MalformedRecord}
 use Rattle.record.proofs.Read.{stored}
 use Rattle.lookup_ranges.specs.First.{or_else}
@@ -21,8 +22,7 @@ use Rattle.profile_trees.specs.Rules.{BatchNode, Rule, NumberedRule, rules}
 use Rattle.profile_trees.specs.Profile.{batch_nodes, NodeRow, node_rows, first_row, break_at, first_break, first_broken, told_of, profile_answer}
 use Rattle.profile_trees.specs.First.{breaks_rule, of_node, broken, FirstBreak, NoneBroken, Says}
 use Rattle.profile_trees.specs.declared.Break.{Break}
-use Rattle.profile_trees.specs.declared.ProfileAnswer.{ProfileAnswer}
-use Rattle.profile_trees.specs.declared.ProfileAnswer.TheVariants.{Refused, Passes, Breaks}
+use Rattle.std.specs.Prelude.{Option as Answer, Some, None, Result, Ok, Err}
 use Rattle.profile_trees.proofs.First.{Ascending, OfRule, first_among, ascending_rules}
 use Rattle.profile_trees.proofs.Fine.{FineNode, all_fine, past_quiet}
 use Rattle.profile_trees.proofs.Searched.{Quiet, node_none, node_found}
@@ -145,11 +145,11 @@ pub says : (nodes rows : List ℕ) → Says (read nodes rows) (profile_answer (r
 unfolding profile_answer of_any
 says nodes rows = go (read nodes rows) refl
   where
-    told : (f : Forest) → All FineNode (batch_nodes false f) → (o : Option Break) → first_broken f ≡ o → Says (holds f) (told_of o)
+    told : (f : Forest) → All FineNode (batch_nodes false f) → (o : Option Break) → first_broken f ≡ o → Says (holds f) (Ok (told_of o))
     told f fine nothing e = passes_told f fine e
     told f fine (some b) e = break_told f fine b e
 
-    go : (r : Reading) → read nodes rows ≡ r → Says r (of_any (Refused MalformedRecord) (λ f. told_of (first_broken f)) r)
+    go : (r : Reading) → read nodes rows ≡ r → Says r (of_any (Err MalformedRecord) (λ f. Ok (told_of (first_broken f))) r)
     go malformed e = refl
     go (holds f) e = told f (all_fine false f (stored nodes rows f e).well.fine) (first_broken f) refl
 
@@ -180,16 +180,14 @@ first_only f b c h k = λ i. record { rule = rule i; node = at i; row = in_it i 
     in_it = same b.row c.row (λ l. never_both h.breaks (k.no_row_before b.row l) (ap₂ (λ (n m : ℕ). broken f n m b.row) rule at)) (λ l. never_both k.breaks (h.no_row_before c.row l) (ap₂ (λ (n m : ℕ). broken f n m c.row) (sym rule) (sym at)))
 
 -- so an answer that says what is true is the one: "it passes exactly if no rule is broken anywhere", and no other place can be told
-pub says_only : (batch : Reading) (a b : ProfileAnswer) → Says batch a → Says batch b → a ≡ b
-says_only malformed (Refused v) (Refused w) p q = ap Refused (p ∙ sym q)
-says_only malformed (Refused v) Passes p q = absurd q
-says_only malformed (Refused v) (Breaks c) p q = absurd q
-says_only malformed Passes b p q = absurd p
-says_only malformed (Breaks c) b p q = absurd p
-says_only (holds f) (Refused v) b p q = absurd p
-says_only (holds f) Passes (Refused w) p q = absurd q
-says_only (holds f) Passes Passes p q = refl
-says_only (holds f) Passes (Breaks c) p q = absurd (true≢false (sym q.breaks ∙ p c.rule c.node c.row))
-says_only (holds f) (Breaks b) (Refused w) p q = absurd q
-says_only (holds f) (Breaks b) Passes p q = absurd (true≢false (sym p.breaks ∙ q b.rule b.node b.row))
-says_only (holds f) (Breaks b) (Breaks c) p q = ap Breaks (first_only f b c p q)
+pub says_only : (batch : Reading) (a b : Result (Answer Break) Refusal) → Says batch a → Says batch b → a ≡ b
+says_only malformed (Err v) (Err w) p q = ap Err (p ∙ sym q)
+says_only malformed (Err v) (Ok b) p q = absurd q
+says_only malformed (Ok a) b p q = absurd p
+says_only (holds f) (Err v) b p q = absurd p
+says_only (holds f) (Ok None) (Err w) p q = absurd q
+says_only (holds f) (Ok None) (Ok None) p q = refl
+says_only (holds f) (Ok None) (Ok (Some c)) p q = absurd (true≢false (sym q.breaks ∙ p c.rule c.node c.row))
+says_only (holds f) (Ok (Some b)) (Err w) p q = absurd q
+says_only (holds f) (Ok (Some b)) (Ok None) p q = absurd (true≢false (sym p.breaks ∙ q b.rule b.node b.row))
+says_only (holds f) (Ok (Some b)) (Ok (Some c)) p q = ap (λ (b : Break). Ok (Some b)) (first_only f b c p q)

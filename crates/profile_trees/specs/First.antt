@@ -1,17 +1,16 @@
 -- What the check is to say, as sentences: yes exactly if no rule is broken anywhere, and else the first place at which one is.
 -- That `profile_answer` says just that is shown in proofs/Told.
 -- Assumes nothing: these are definitions.
-use Rattle.std.specs.Prelude.{◌≡◌, ℕ, ◌<◌, Bool, true, false, ◌&&◌, ◌||◌, List, [], ◌∷◌, eqb}
+use Rattle.std.specs.Prelude.{◌≡◌, ℕ, ◌<◌, Bool, true, false, ◌&&◌, ◌||◌, List, [], ◌∷◌, eqb, Option as Answer, Some, None, Result, Ok, Err}
 use Rattle.std.proofs.Math.Option.{Option, none as nothing, some}
 use Rattle.std.proofs.Math.ListN.{get_elem?}
 use Rattle.record.specs.Tree.{Forest}
 use Rattle.record.specs.Read.{Reading, malformed, holds}
+use Rattle.record.specs.declared.Refusal.{Refusal}
 use Rattle.record.specs.declared.Refusal.TheVariants.{MalformedRecord}
 use Rattle.profile_trees.specs.Rules.{BatchNode, NumberedRule, rules}
 use Rattle.profile_trees.specs.Profile.{batch_nodes}
 use Rattle.profile_trees.specs.declared.Break.{Break}
-use Rattle.profile_trees.specs.declared.ProfileAnswer.{ProfileAnswer}
-use Rattle.profile_trees.specs.declared.ProfileAnswer.TheVariants.{Refused, Passes, Breaks}
 
 -- whether some of the rules has this number and the node breaks it at this row
 abbrev pub breaks_rule : List NumberedRule → ℕ → BatchNode → ℕ → Bool
@@ -38,10 +37,9 @@ abbrev pub NoneBroken : Forest → Type 0
 NoneBroken f = (number n row : ℕ) → broken f number n row ≡ false
 
 -- what an answer says of a batch
-abbrev pub Says : Reading → ProfileAnswer → Type 0
-Says malformed (Refused why) = why ≡ MalformedRecord
-Says malformed Passes = ⊥
-Says malformed (Breaks b) = ⊥
-Says (holds f) (Refused why) = ⊥
-Says (holds f) Passes = NoneBroken f
-Says (holds f) (Breaks b) = FirstBreak f b
+abbrev pub Says : Reading → Result (Answer Break) Refusal → Type 0
+Says malformed (Err why) = why ≡ MalformedRecord
+Says malformed (Ok told) = ⊥
+Says (holds f) (Err why) = ⊥
+Says (holds f) (Ok None) = NoneBroken f
+Says (holds f) (Ok (Some b)) = FirstBreak f b

@@ -1,15 +1,14 @@
 -- The check of a batch against the profile: yes, or the first broken rule (document 02, request 08).
 -- Assumes nothing: these are definitions.
-use Rattle.std.specs.Prelude.{ℕ, zero, suc, max, Bool, true, false, cond, List, [], ◌∷◌, ◌++◌, length}
+use Rattle.std.specs.Prelude.{ℕ, zero, suc, max, Bool, true, false, cond, List, [], ◌∷◌, ◌++◌, length, Option as Answer, Some, None, Result, Ok, Err}
 use Rattle.std.proofs.Math.Option.{Option, none as nothing, some, map}
 use Rattle.record.specs.Tree.{Forest, none, node}
 use Rattle.record.specs.Read.{Reading, of_any}
+use Rattle.record.specs.declared.Refusal.{Refusal}
 use Rattle.record.specs.declared.Refusal.TheVariants.{MalformedRecord}
 use Rattle.lookup_ranges.specs.First.{or_else}
 use Rattle.profile_trees.specs.Rules.{BatchNode, Rule, NumberedRule, rules}
 use Rattle.profile_trees.specs.declared.Break.{Break}
-use Rattle.profile_trees.specs.declared.ProfileAnswer.{ProfileAnswer}
-use Rattle.profile_trees.specs.declared.ProfileAnswer.TheVariants.{Refused, Passes, Breaks}
 
 -- ---- "then depth first": the nodes of a batch, and their rows, as they are stored
 
@@ -55,10 +54,10 @@ unfoldable pub first_broken : Forest → Option Break
 first_broken f = first_break rules (node_rows 0 (batch_nodes false f))
 
 -- "The check says yes, or the first broken rule"
-abbrev pub told_of : Option Break → ProfileAnswer
-told_of nothing = Passes
-told_of (some b) = Breaks b
+abbrev pub told_of : Option Break → Answer Break
+told_of nothing = None
+told_of (some b) = Some b
 
 -- "Turned away: 1"
-unfoldable pub profile_answer : Reading → ProfileAnswer
-profile_answer batch = of_any (Refused MalformedRecord) (λ f. told_of (first_broken f)) batch
+unfoldable pub profile_answer : Reading → Result (Answer Break) Refusal
+profile_answer batch = of_any (Err MalformedRecord) (λ f. Ok (told_of (first_broken f))) batch

@@ -1,12 +1,10 @@
-// The profile of plain records that depot hosts accept (document 02, request 08): where a record breaks one of its six rules, and
-// what the check answers. The rules themselves are in specs/Rules.
+// The profile of plain records that depot hosts accept (document 02, request 08): where a record breaks one of its six rules. The
+// rules themselves are in specs/Rules.
 #![tactic(auto)]
 
 ghost use Rattle.std.proofs.Math.Option.{none as nothing};
 ghost use Rattle.std.specs.Prelude.{◌≡◌};
 ghost use Rattle.profile_trees.specs.Promises.{held};
-
-use record::Refusal;
 
 // A broken rule by its number, with the node in the batch and the row in the node, both counted from 0.
 #[derive(Clone, Copy)]
@@ -17,7 +15,8 @@ pub struct Break {
 }
 
 impl Break {
-    // One above the last rule: what stands for the rule where none is broken, so that every break goes before it.
+    // One above the last rule: what stands for the rule where none is broken, so that every break goes before it. A number and no
+    // Option, so that the pass over the rows compares once and not twice.
     pub const NO_RULE: u32 = 7;
 
     pub fn none() -> Self
@@ -29,12 +28,4 @@ impl Break {
             row: 0,
         }
     }
-}
-
-// What the check of a batch answers: refused, yes, or the first broken rule.
-#[derive(Clone, Copy)]
-pub enum ProfileAnswer {
-    Refused(Refusal),
-    Passes,
-    Breaks(Break),
 }

@@ -1,4 +1,5 @@
 -- `in_order` meets its contract. The loop's invariant, `Ordering`: the ranges passed have ended where the next may begin. Assumes nothing.
+use native.Mathlib.Omega.{arith}
 use mathlib.Core.Bool.{false≢true}
 use Rattle.profile_order.proofs.Ordering.{ordering_start, ordering_absent, ordering_next, ordering_end}
 use Rattle.profile_order.proofs.in_order.Goals as goal
@@ -16,9 +17,9 @@ loop-k-preserved c =
     let below = c.loop-k-test.true in
     elim c.if-nodes-at-eq1.branch [
       | then-nodes-at-eq1+else-nodes-at w ↦
-          rw w.end-is (ordering_next o below _ w.if-nodes-at.false w.larger_number-end.ensures)
+          rw w.end-is (ordering_next o below _ w.if-nodes-at.false w.max-end.ensures)
       | else-nodes-at-eq1 w ↦ rw w.end-is (ordering_absent o below w.if-nodes-at-eq1.false)
     ]
 
 pub returns : goal.returns
-returns c = λ e row. ordering_end c.loop-k.invariant c.loop-k-test.false row
+returns c = λ e row. ordering_end c.loop-k.invariant (omega arith) row

