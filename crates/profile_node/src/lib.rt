@@ -56,6 +56,7 @@ fn check_stretches(
     let count = nodes[i];
     let mut found = best;
     let mut row: u32 = 0;
+    // A while: the step is to the end of a stretch, which the ranges decide.
     while row < count {
         let stretch = profile_ranges::stretch_at(nodes, i, row);
         let end = stretch.end;

@@ -1,20 +1,21 @@
 -- The quick test leaves out no row that breaks a rule on rows. Assumes nothing.
-use mathlib.Core.Path.{◌≡◌, refl, sym, ap, ◌∙◌}
-use mathlib.Core.Bool.{Bool, true, false, ◌&&◌, ◌||◌, cond, true≢false}
-use Prim.Native.Nat.{ℕ, zero, suc, ◌+◌, ◌≤◌}
+use mathlib.Core.Path.{◌≡◌, refl, sym}
+use mathlib.Core.Bool.{Bool, true, false, ◌&&◌, ◌||◌, true≢false}
+use Prim.Native.Nat.{ℕ, zero, suc, ◌≤◌}
 use native.Mathlib.Omega.{arith}
 use mathlib.Core.List.{List}
 use lib.Dec.{eqb, ltb}
 use lib.ListN.{drop}
 use borrow.Author.Tests.{ltb-false, eqb-false}
-use Rattle.lists.specs.Lists.{one}
-use Rattle.lists.proofs.Numbers.{one_none}
 use Rattle.record.specs.Flat.{row_at}
 use Rattle.lookup_search.specs.Promises.{at_word_mark, at_word, at_offset_start, at_offset_end}
 use Rattle.profile_trees.specs.Promises.{no_rule}
 use Rattle.profile_row.specs.Promises.{lowest_rule}
 use Rattle.profile_row.proofs.Lowest.{column, at_special, at_attention, MasksFine, masks_fine, rule_none}
-use Rattle.profile_quick.specs.Promises.{mask_rule}
+
+-- one of the rules on masks is broken: one is above 1, or both are 0
+abbrev pub mask_rule : ℕ → ℕ → Bool
+mask_rule special attention = ltb 1 special || (ltb 1 attention || (eqb attention 0 && eqb special 0))
 
 one_left : (k : ℕ) → (k ≡ 0 → ⊥) → k ≤ 1 → k ≡ 1
 one_left zero n h = absurd (n refl)
@@ -35,23 +36,14 @@ masks_none special attention h = go (ltb 1 special) (ltb 1 attention) refl refl 
     go true b p q e = absurd (true≢false e)
     go false true p q e = absurd (true≢false e)
 
--- a mark that is not looked at is none
-falls_looked : (words : Bool) (mark word last : ℕ) → (eqb (cond words mark 0) 1 && ltb word last) ≡ (words && (eqb mark 1 && ltb word last))
-falls_looked true mark word last = refl
-falls_looked false mark word last = refl
+neither : (a b : Bool) → (a || b) ≡ false → (a ≡ false) × (b ≡ false)
+neither true b e = absurd (true≢false e)
+neither false b e = (refl, e)
 
 module _ (words : Bool) (last : ℕ) (rows : List ℕ) (at : ℕ) where
-  pub quick_none : {masks offsets looked falls : ℕ}
-      → masks ≡ one (mask_rule (column rows at at_special) (column rows at at_attention))
-      → offsets ≡ one (ltb (column rows at at_offset_end) (column rows at at_offset_start))
-      → looked ≡ cond words (column rows at at_word_mark) 0
-      → falls ≡ one (eqb looked 1 && ltb (column rows at at_word) last)
-      → masks + offsets + falls ≡ 0
+  pub quick_none : ((mask_rule (column rows at at_special) (column rows at at_attention) || ltb (column rows at at_offset_end) (column rows at at_offset_start)) || (words && (eqb (column rows at at_word_mark) 1 && ltb (column rows at at_word) last))) ≡ false
       → lowest_rule words last (row_at (drop at rows)) ≡ no_rule
-  quick_none {masks} {offsets} {looked} {falls} m o l f z =
-      let fine = masks_none (column rows at at_special) (column rows at at_attention) (one_none _ m (omega arith)) in
-      let passes : ltb (column rows at at_offset_end) (column rows at at_offset_start) ≡ false = one_none _ o (omega arith) in
-      let same : (eqb looked 1 && ltb (column rows at at_word) last) ≡ (words && (eqb (column rows at at_word_mark) 1 && ltb (column rows at at_word) last)) =
-      ap (λ (k : ℕ). eqb k 1 && ltb (column rows at at_word) last) l ∙ falls_looked words (column rows at at_word_mark) (column rows at at_word) last
-      in
-      sym (rule_none words last rows at fine (ltb-false (column rows at at_offset_end) (column rows at at_offset_start) passes) (sym same ∙ one_none _ f (omega arith)))
+  quick_none none =
+      let (others, falls) = neither _ _ none in
+      let (masks, passes) = neither _ _ others in
+      sym (rule_none words last rows at (masks_none (column rows at at_special) (column rows at at_attention) masks) (ltb-false (column rows at at_offset_end) (column rows at at_offset_start) passes) falls)

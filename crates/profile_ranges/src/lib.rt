@@ -25,8 +25,7 @@ pub fn stretch_at(nodes: &[u32], i: usize, row: u32) -> RowStretch
 {
     let mut end = nodes[i];
     let mut words = true;
-    let mut k: usize = 0;
-    while k < Encoding::SEQUENCES {
+    for k in 0..Encoding::SEQUENCES {
         let at = i + Encoding::RANGES + k * Encoding::RANGE_WIDTH;
         if nodes[at] == 1 {
             words = false;
@@ -42,7 +41,6 @@ pub fn stretch_at(nodes: &[u32], i: usize, row: u32) -> RowStretch
                 end = start;
             }
         }
-        k += 1;
     }
     RowStretch { end, words }
 }

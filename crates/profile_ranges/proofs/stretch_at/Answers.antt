@@ -25,4 +25,4 @@ loop-k-preserved c =
     ]
 
 pub returns : goal.returns
-returns c = stretching_end c.loop-k.invariant c.loop-k-test.false c.requires.2
+returns c = stretching_end c.loop-k.invariant (omega arith) c.requires.2

@@ -1,13 +1,8 @@
 -- `stretch_at` finds the end of the stretch. The loop's invariant, `Stretching`: no range before place k holds any of its rows.
 -- Assumes nothing.
-use Prim.Native.Nat.{◌-◌}
 use lib.ListN.{get_or}
-use Rattle.record.specs.Tree.{sequences}
 use Rattle.profile_ranges.proofs.Stretching.{Stretching}
 use Rattle.profile_ranges.proofs.stretch_at.Given as goal
 
 abbrev pub invariant-loop-k : goal.invariant-loop-k
 invariant-loop-k l = Stretching l.nodes l.i (get_or l.nodes l.i 0) l.row l.end l.words l.k
-
-abbrev pub decreases-loop-k : goal.decreases-loop-k
-decreases-loop-k l = sequences - l.k
