@@ -28,10 +28,9 @@ abbrev pub first_there : Bool → ℕ → ℕ → BatchNode → ℕ → Option B
 first_there words number start N count = first_break (row_rules (falls_there words start)) (rows_from number N start count)
 
 -- What is known at a row: what was found is of the rows before it, whichever node they are of, and so is the last word.
-pub record Checking (rows : List ℕ) (first : ℕ) (words : Bool) (number start end : ℕ) (best found : Break) (last row at : ℕ) : Type 0 where
+pub record Checking (rows : List ℕ) (first : ℕ) (words : Bool) (number start end : ℕ) (best found : Break) (last row : ℕ) : Type 0 where
   pub after : start ≤ row
   pub inside : row ≤ end
-  pub place : at ≡ first + row * row_width
   pub few : found.rule ≤ no_rule
   pub found_is : (N : BatchNode) (before : Option Break) → RowsAt rows first N.encoding.rows → end ≤ length N.encoding.rows → best ≡ held before
       → found ≡ held (better before (first_there words number start N (row - start)))
@@ -42,14 +41,12 @@ first_none : (words : Bool) (number start : ℕ) (N : BatchNode) → first_there
 unfolding first_break first_row rows_from
 first_none words number start N = refl
 
-pub checking_start : (rows : List ℕ) (first : ℕ) (words : Bool) (number start end : ℕ) (best : Break) (at : ℕ) → start ≤ end → best.rule ≤ no_rule → at ≡ first + start * row_width
-    → Checking rows first words number start end best best 0 start at
-checking_start rows first words number start end best at h small e =
+pub checking_start : (rows : List ℕ) (first : ℕ) (words : Bool) (number start end : ℕ) (best : Break) → start ≤ end → best.rule ≤ no_rule → Checking rows first words number start end best best 0 start
+checking_start rows first words number start end best h small =
     let none : start - start ≡ 0 = omega arith in
     record {
       after = omega arith;
       inside = h;
-      place = e;
       few = small;
       found_is = λ N before R long is. is ∙ ap held (sym (better_nothing before) ∙ ap (better before) (sym (ap (first_there words number start N) none ∙ first_none words number start N)));
       last_is = λ N R long. last_none start N.encoding.rows;
@@ -69,18 +66,21 @@ first_more words number start N row h =
     ∙ ap (first_break rules) (rows_append number N start (row - start) 1 ∙ ap (λ (k : ℕ). rows_from number N start (row - start) ++ (record { number = number; of = N; row = k } ∷ [])) back)
     ∙ first_append rules (ascending_rows (falls_there words start)) (rows_from number N start (row - start)) (record { number = number; of = N; row = row } ∷ [])
 
-module _ {rows : List ℕ} {first : ℕ} {words : Bool} {number start end : ℕ} {best found : Break} {last row at : ℕ} (k : Checking rows first words number start end best found last row at) where
+module _ {rows : List ℕ} {first : ℕ} {words : Bool} {number start end : ℕ} {best found : Break} {last row : ℕ} (k : Checking rows first words number start end best found last row) where
+  -- where it stands
+  abbrev at : ℕ
+  at = first + row * row_width
+
   row_is : (N : BatchNode) → RowsAt rows first N.encoding.rows → row < length N.encoding.rows → row_at (drop at rows) ≡ get_or N.encoding.rows row no_row
-  row_is N R h = ap (λ (n : ℕ). row_at (drop n rows)) k.place ∙ row_here R row no_row h
+  row_is N R h = row_here R row no_row h
 
   pub checking_next : {found' : Break} {last' : ℕ} → row < end → found' ≡ lower (lowest_rule words last (row_at (drop at rows))) number row found
       → last' ≡ word_after (get_or rows (at + 5) 0) (get_or rows (at + 6) 0) last
-      → Checking rows first words number start end best found' last' (row + 1) (at + row_width)
+      → Checking rows first words number start end best found' last' (row + 1)
   checking_next {found'} {last'} h f l =
       record {
         after = omega (arith, k.after);
         inside = omega arith;
-        place = omega (arith, k.place);
         few = rw f (lower_few (lowest_rule words last (row_at (drop at rows))) number row found (rule_few words last (row_at (drop at rows))) k.few);
         found_is = λ N before R long is.
             let p : NodeRow = record { number = number; of = N; row = row } in

@@ -22,21 +22,17 @@ pub fn check_rows(
     requires { (stretch.start ≤ stretch.end) × (first + stretch.end * row_width ≤ length rows.now) × (best.rule ≤ no_rule) }
     ensures { Checked rows.now first stretch words node best result }
 {
-    let end = stretch.end;
     let mut found = best;
     let mut last: u32 = 0;
-    let mut row = stretch.start;
-    let mut at = first + (row as usize) * Encoding::ROW_WIDTH;
-    while row < end {
-        if profile_quick::row_wrong(rows, at, words, last) > 0 {
+    for row in stretch.start..stretch.end {
+        let at = first + row as usize * Encoding::ROW_WIDTH;
+        if profile_quick::row_wrong(rows, at, words, last) {
             let rule = profile_row::row_rule(rows, at, words, last);
             if rule < found.rule {
                 found = Break { rule, node, row };
             }
         }
         last = profile_row::word_after(rows[at + Column::WORD_MARK], rows[at + Column::WORD], last);
-        row += 1;
-        at += Encoding::ROW_WIDTH;
     }
     found
 }
