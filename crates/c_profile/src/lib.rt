@@ -7,8 +7,6 @@ ghost use Rattle.c_profile.specs.Answers.{profile_crossed};
 ghost use Rattle.profile_trees.specs.Profile.{profile_answer};
 ghost use Rattle.record.specs.Read.{read};
 
-use profile_trees::ProfileAnswer;
-
 // Whether a batch keeps the terminal profile. Rule 1: windows have no windows; 2: both masks are 0 or 1; 3: attention is 0 only
 // where the special mask is 1; 4: offset start does not pass offset end; 5: no row lies in two ranges; 6: inside each range, or
 // in all rows if the node has no range, the words that are present never fall. The answer is three zeros if all are kept, else
@@ -22,16 +20,10 @@ pub extern "C" fn noddrefyr_check_profile(nodes: &[u32], rows: &[u32], answer: &
         (profile_crossed answer.old (profile_answer (read nodes.now rows.now))) result
         answer.new }
 {
-    let found = profile::check_profile(nodes, rows);
-    match found {
-        ProfileAnswer::Refused(why) => why.number(),
-        ProfileAnswer::Passes => {
-            *answer = [0, 0, 0];
-            0
-        }
-        ProfileAnswer::Breaks(first) => {
-            *answer = [first.rule, first.node, first.row];
-            0
-        }
-    }
+    let told = match profile::check_profile(nodes, rows) {
+        Err(why) => Err(why),
+        Ok(None) => Ok([0, 0, 0]),
+        Ok(Some(first)) => Ok([first.rule, first.node, first.row]),
+    };
+    c_crossing::cross(told, answer)
 }

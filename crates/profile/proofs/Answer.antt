@@ -8,32 +8,32 @@ use mathlib.Core.List.{List}
 use Rattle.record.specs.Tree.{Forest}
 use Rattle.record.specs.WellFormed.{Stores}
 use Rattle.record.specs.Read.{read}
+use Rattle.record.specs.declared.Refusal.{Refusal}
 use Rattle.record.specs.declared.Refusal.TheVariants.{MalformedRecord}
 use Rattle.record_check.specs.Answers.{shape_of}
-use Rattle.record_check.specs.declared.Shape.TheVariants.{Malformed}
-use Rattle.record_check.proofs.Checked.{none_of, any_of}
+use Rattle.record_check.proofs.Checked.{refused_as, none_of, any_of}
 use Rattle.profile_trees.specs.Rules.{rules}
 use Rattle.profile_trees.specs.Profile.{batch_nodes, node_rows, first_broken, told_of, profile_answer}
 use Rattle.profile_trees.specs.First.{Says}
 use Rattle.profile_trees.specs.Promises.{no_rule, held}
 use Rattle.profile_trees.specs.declared.Break.{Break}
-use Rattle.profile_trees.specs.declared.ProfileAnswer.{ProfileAnswer}
-use Rattle.profile_trees.specs.declared.ProfileAnswer.TheVariants.{Refused, Passes, Breaks}
+use Rattle.std.specs.Prelude.{Option as Answer, Some, None, Result, Ok, Err}
 use Rattle.profile_trees.proofs.First.{OfRule, first_among}
 use Rattle.profile_trees.proofs.Told.{says}
 
 -- an answer that is the definition's says what it is to say
-pub says_so : (nodes rows : List ℕ) (answer : ProfileAnswer) → answer ≡ profile_answer (read nodes rows) → (answer ≡ profile_answer (read nodes rows)) × Says (read nodes rows) answer
+pub says_so : (nodes rows : List ℕ) (answer : Result (Answer Break) Refusal) → answer ≡ profile_answer (read nodes rows) → (answer ≡ profile_answer (read nodes rows)) × Says (read nodes rows) answer
 says_so nodes rows answer e = (e, subst (Says (read nodes rows)) (sym e) (says nodes rows))
 
-pub answered_malformed : (nodes rows : List ℕ) → shape_of (read nodes rows) ≡ Malformed → Refused MalformedRecord ≡ profile_answer (read nodes rows)
+pub answered_malformed : (nodes rows : List ℕ) {why : Refusal} → Err why ≡ shape_of (read nodes rows) → Err why ≡ profile_answer (read nodes rows)
 unfolding profile_answer
-answered_malformed nodes rows e = sym (none_of (Refused MalformedRecord) (λ f. told_of (first_broken f)) (read nodes rows) e)
+answered_malformed nodes rows e =
+    ap Err (refused_as (read nodes rows) (sym e)) ∙ sym (none_of (Err MalformedRecord) (λ f. Ok (told_of (first_broken f))) (read nodes rows) (sym e))
 
 module _ {nodes rows : List ℕ} {f : Forest} (s : Stores nodes rows f) where
-  answered : profile_answer (read nodes rows) ≡ told_of (first_broken f)
+  answered : profile_answer (read nodes rows) ≡ Ok (told_of (first_broken f))
   unfolding profile_answer
-  answered = any_of (Refused MalformedRecord) (λ f. told_of (first_broken f)) s
+  answered = any_of (Err MalformedRecord) (λ f. Ok (told_of (first_broken f))) s
 
   -- no rule has the number that stands for none
   below_none : OfRule (λ n. n ≤ 6) (first_broken f)
@@ -41,16 +41,16 @@ module _ {nodes rows : List ℕ} {f : Forest} (s : Stores nodes rows f) where
   below_none = first_among (λ n. n ≤ 6) rules (omega arith) (node_rows 0 (batch_nodes false f))
 
   module _ (found : Break) (e : found ≡ held (first_broken f)) where
-    pub answered_passes : found.rule ≡ no_rule → Passes ≡ profile_answer (read nodes rows)
-    answered_passes h = go (first_broken f) e below_none ∙ sym answered
+    pub answered_passes : found.rule ≡ no_rule → Ok None ≡ profile_answer (read nodes rows)
+    answered_passes h = ap Ok (go (first_broken f) e below_none) ∙ sym answered
       where
-        go : (o : Option Break) → found ≡ held o → OfRule (λ n. n ≤ 6) o → Passes ≡ told_of o
+        go : (o : Option Break) → found ≡ held o → OfRule (λ n. n ≤ 6) o → None ≡ told_of o
         go nothing e few = refl
         go (some b) e few = absurd (omega (arith, h, few, ap (λ (b : Break). b.rule) e))
 
-    pub answered_breaks : (found.rule ≡ no_rule → ⊥) → Breaks found ≡ profile_answer (read nodes rows)
-    answered_breaks h = go (first_broken f) e ∙ sym answered
+    pub answered_breaks : (found.rule ≡ no_rule → ⊥) → Ok (Some found) ≡ profile_answer (read nodes rows)
+    answered_breaks h = ap Ok (go (first_broken f) e) ∙ sym answered
       where
-        go : (o : Option Break) → found ≡ held o → Breaks found ≡ told_of o
+        go : (o : Option Break) → found ≡ held o → Some found ≡ told_of o
         go nothing e = absurd (h (ap (λ (b : Break). b.rule) e))
-        go (some b) e = ap Breaks e
+        go (some b) e = ap Some e

@@ -24,7 +24,7 @@ use Rattle.lookup_search.proofs.Parts.{there, part_at}
 use Rattle.lookup_search.proofs.InRange.{length_in_range}
 use Rattle.profile_trees.specs.Rules.{last_word, below_last, falls_from, any_range, falls_within, word_falls}
 use Rattle.profile_trees.specs.Profile.{profile_answer}
-use Rattle.profile_trees.specs.declared.ProfileAnswer.TheVariants.{Passes}
+use Rattle.std.specs.Prelude.{Ok, None}
 use Rattle.profile_words.specs.Lookup.{Asked}
 use Rattle.profile_words.proofs.Unbroken.{top, words_hold}
 
@@ -116,7 +116,7 @@ module _ (E : Encoding) (id row : ℕ) where
 
 -- ---- So words never fall there
 
-pub words_never_fall : {nodes rows : List ℕ} {E : Encoding} → One nodes rows E → profile_answer (read nodes rows) ≡ Passes → (id : ℕ) → Asked E id → NeverFall (in_range E id)
+pub words_never_fall : {nodes rows : List ℕ} {E : Encoding} → One nodes rows E → profile_answer (read nodes rows) ≡ Ok None → (id : ℕ) → Asked E id → NeverFall (in_range E id)
 unfolding falls_from
 words_never_fall {nodes} {rows} {E} one passes id asked = never_fall (in_range E id) step
   where

@@ -23,7 +23,7 @@ use Rattle.lookup_search.proofs.InRange.{the_row, length_in_range, at}
 use Rattle.lookup_words.specs.Words.{word_to_tokens}
 use Rattle.lookup_words.proofs.WordLaws.{from_to_lem, words_found}
 use Rattle.profile_trees.specs.Profile.{profile_answer}
-use Rattle.profile_trees.specs.declared.ProfileAnswer.TheVariants.{Passes}
+use Rattle.std.specs.Prelude.{Ok, None}
 use Rattle.profile_words.specs.Lookup.{Asked, Carries, FindsWord}
 use Rattle.profile_words.proofs.Falls.{words_never_fall}
 use Rattle.profile_words.proofs.Until.{carried_before}
@@ -55,7 +55,7 @@ module _ {nodes rows : List ℕ} {E : Encoding} (one : One nodes rows E) (word i
     pub inside : row - start < length looked
     pub holds : is_word word (get_or looked (row - start) no_row) ≡ true
 
-  module _ (passes : profile_answer (read nodes rows) ≡ Passes) (asked : Asked E id) where
+  module _ (passes : profile_answer (read nodes rows) ≡ Ok None) (asked : Asked E id) where
     seen : {row : ℕ} → Carries E word id row → Seen row
     seen {row} c =
         let j : ℕ = row - start in
@@ -109,7 +109,7 @@ module _ {nodes rows : List ℕ} {E : Encoding} (one : One nodes rows E) (word i
 
 -- "For records that pass, show that looking up a word under an id with a range, or in a record without ranges, finds nothing
 -- exactly if no row there carries it, and otherwise spans every row that does."
-pub finds_word : {nodes rows : List ℕ} {E : Encoding} → One nodes rows E → profile_answer (read nodes rows) ≡ Passes → (word id : ℕ) → Asked E id → FindsWord E word id
+pub finds_word : {nodes rows : List ℕ} {E : Encoding} → One nodes rows E → profile_answer (read nodes rows) ≡ Ok None → (word id : ℕ) → Asked E id → FindsWord E word id
 finds_word one passes word id asked =
     record {
       nothing_carried = nothing_carried one word id passes asked;

@@ -20,7 +20,7 @@ use Rattle.lookup_search.specs.Searches.{word_rows}
 use Rattle.lookup_words.specs.Words.{word_to_tokens}
 use Rattle.profile_trees.specs.Rules.{has_windows, holders, in_two, last_word, falls_from, word_falls}
 use Rattle.profile_trees.specs.Profile.{batch_nodes, rows_from, node_rows, first_row, first_break, first_broken, profile_answer}
-use Rattle.profile_trees.specs.declared.ProfileAnswer.TheVariants.{Passes}
+use Rattle.std.specs.Prelude.{Ok, None}
 use Rattle.profile_words.specs.Lookup.{Carries, FindsWord}
 
 row : ℕ → Row
@@ -45,7 +45,7 @@ unbroken : first_broken (forest (two ∷ [])) ≡ nothing
 unfolding row range two first_broken batch_nodes rows_from node_rows first_row first_break has_windows holders in_two last_word falls_from word_falls present
 unbroken = refl
 
-passes : profile_answer (read (flat_nodes (forest (two ∷ []))) (flat_rows (forest (two ∷ [])))) ≡ Passes
+passes : profile_answer (read (flat_nodes (forest (two ∷ []))) (flat_rows (forest (two ∷ [])))) ≡ Ok None
 unfolding profile_answer of_any
 passes = rw (found _ _ (forest (two ∷ [])) stored.stores, unbroken)
 
@@ -59,5 +59,5 @@ carried : Carries two 1 0 1
 unfolding row range two sequence_range
 carried = record { from = omega arith; to = omega arith; carried = refl }
 
-pub not_under_every_id : ((nodes rows : List ℕ) (E : Encoding) → One nodes rows E → profile_answer (read nodes rows) ≡ Passes → (word id : ℕ) → FindsWord E word id) → ⊥
+pub not_under_every_id : ((nodes rows : List ℕ) (E : Encoding) → One nodes rows E → profile_answer (read nodes rows) ≡ Ok None → (word id : ℕ) → FindsWord E word id) → ⊥
 not_under_every_id finds = (finds (flat_nodes (forest (two ∷ []))) (flat_rows (forest (two ∷ []))) two stored passes 1 0).nothing_carried not_found 1 carried

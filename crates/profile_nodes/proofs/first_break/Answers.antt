@@ -20,11 +20,8 @@ returns-then-windows-gt0 c = walking_stops c.loop-i.invariant c.loop-i-test.true
 pub check_node-best-requires : goal.check_node-best-requires
 check_node-best-requires c = walking_there c.loop-i.invariant c.loop-i-test.true
 
-pub overflow_mul-j : goal.overflow_mul-j
-overflow_mul-j c = omega (arith, c.wide.ensures, walking_fits c.loop-i.invariant c.loop-i-test.true)
-
 pub overflow_add-j : goal.overflow_add-j
-overflow_add-j c = omega (arith, c.wide.ensures, walking_fits c.loop-i.invariant c.loop-i-test.true)
+overflow_add-j c = omega (arith, walking_fits c.loop-i.invariant c.loop-i-test.true)
 
 pub overflow_add-i : goal.overflow_add-i
 overflow_add-i c = omega (arith, walking_fits c.loop-i.invariant c.loop-i-test.true)
@@ -41,7 +38,7 @@ loop-i-preserved c =
       | else-left-gt0 w ↦ λ h. absurd (omega (arith, w.if-left-gt0.false))
     ] in
     let next = walking_next c.loop-i.invariant c.loop-i-test.true plain c.check_node-best.result c.check_node-best.ensures in
-    rw (c.wide.ensures, c.left_after-left.ensures) next
+    rw c.left_after-left.ensures next
 
 pub returns : goal.returns
 returns c = walking_end c.loop-i.invariant c.loop-i-test.false
