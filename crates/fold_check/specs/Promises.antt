@@ -1,20 +1,17 @@
 -- What the functions ask and give that decide whether a batch can be folded, and how much its fold takes.
 -- Assumes nothing: these are definitions.
-use Rattle.std.specs.Prelude.{◌≡◌, Bool, true, false, List, [], ◌∷◌, ℕ, eqb, length}
+use Rattle.std.specs.Prelude.{◌≡◌, Bool, true, List, [], ◌∷◌, ℕ, length, Result, Ok, Err}
 use Rattle.record.specs.Tree.{Forest, listed, forest, tops}
 use Rattle.record.specs.WellFormed.{Stores, nodes_in, rows_in}
 use Rattle.record.specs.Read.{read}
-use Rattle.record.specs.Refusals.{number_of}
 use Rattle.record.specs.Outcome.{Room, refused}
 use Rattle.record.specs.declared.Refusal.{Refusal}
-use Rattle.record.specs.declared.Refusal.TheVariants.{OffsetTooLarge}
+use Rattle.record.specs.declared.Written.{Written}
 use Rattle.join_trees.specs.Join.{fold}
 use Rattle.join_trees.specs.Offsets.{fold_fits}
 use Rattle.join_trees.specs.Outcomes.{fold_outcome}
 use Rattle.record_room.specs.declared.Size.{Size}
 use Rattle.join_size.specs.Promises.{Sizes}
-use Rattle.fold_check.specs.declared.Decision.{Decision}
-use Rattle.fold_check.specs.declared.Decision.TheVariants.{Refused, TooLarge, Fold}
 
 -- ---- The size
 
@@ -30,11 +27,6 @@ SizesFold nodes rows s = (growing : Bool) (f : Forest) → Stores nodes rows f �
 
 -- ---- The decision: of an output and a working store, by their lengths
 
--- Refused, and not with 6, the one refusal that changes a buffer.
-pub record RefusedFold (growing : Bool) (nodes rows out out' working working' : List ℕ) (k : Refusal) : Type 0 where
-  pub told : fold_outcome growing (read nodes rows) out out' working working' ≡ refused k
-  pub not_six : eqb (number_of k) 6 ≡ false
-
 -- Encodings are stored there whose fold can be written, and this is how much it takes.
 pub record FoldedBy (growing : Bool) (nodes rows out out' working working' : List ℕ) (n m : ℕ) : Type 0 where
   pub f : Forest
@@ -45,12 +37,12 @@ pub record FoldedBy (growing : Bool) (nodes rows out out' working working' : Lis
   pub nodes_taken : n ≡ nodes_in (forest (fold growing (listed f) ∷ []))
   pub rows_taken : m ≡ rows_in (forest (fold growing (listed f) ∷ []))
 
-abbrev pub Decided : Bool → List ℕ → List ℕ → List ℕ → List ℕ → List ℕ → List ℕ → Decision → Type 0
-Decided growing nodes rows out out' working working' (Refused k) = RefusedFold growing nodes rows out out' working working' k
-Decided growing nodes rows out out' working working' TooLarge = fold_outcome growing (read nodes rows) out out' working working' ≡ refused OffsetTooLarge
-Decided growing nodes rows out out' working working' (Fold n m) = FoldedBy growing nodes rows out out' working working' n m
+-- refused, as the fold is; or it can be done
+abbrev pub Decided : Bool → List ℕ → List ℕ → List ℕ → List ℕ → List ℕ → List ℕ → Result Written Refusal → Type 0
+Decided growing nodes rows out out' working working' (Err k) = fold_outcome growing (read nodes rows) out out' working working' ≡ refused k
+Decided growing nodes rows out out' working working' (Ok w) = FoldedBy growing nodes rows out out' working working' w.nodes w.rows
 
 -- a decision for every output and working store that are so long
-abbrev pub DecidesFold : Bool → List ℕ → List ℕ → ℕ → ℕ → ℕ → ℕ → Decision → Type 0
+abbrev pub DecidesFold : Bool → List ℕ → List ℕ → ℕ → ℕ → ℕ → ℕ → Result Written Refusal → Type 0
 DecidesFold growing nodes rows a b c d decision =
     (out out' working working' : List ℕ) → length out ≡ a → length out' ≡ b → length working ≡ c → length working' ≡ d → Decided growing nodes rows out out' working working' decision

@@ -3,20 +3,12 @@
 
 ghost use Rattle.fold_check.specs.Promises.{AskFoldSize, SizesFold, DecidesFold};
 
-use record::{Encoding, Refusal};
-use record_check::Shape;
+use record::{Encoding, Refusal, Written};
 use record_room::Size;
 
-// Refused; or an offset would pass 32 bits, the refusal that leaves zeros; or a fold of so many nodes and rows.
-#[derive(Clone, Copy)]
-pub enum Decision {
-    Refused(Refusal),
-    TooLarge,
-    Fold { nodes: usize, rows: usize },
-}
-
-// What becomes of the fold of a batch, with so many numbers of room in the output and in the working store. The refusal that
-// comes first: 1 a malformed record, 2 no room in the output or in the working store, 6 an offset that would pass 32 bits.
+// What the fold of a batch will write, with so many numbers of room in the output and in the working store; or the refusal that
+// comes first: 1 a malformed record, 2 no room in the output or in the working store, 6 an offset that would pass 32 bits, which
+// leaves zeros.
 pub fn decide(
     nodes: &[u32],
     rows: &[u32],
@@ -25,27 +17,25 @@ pub fn decide(
     row_room: usize,
     working_node_room: usize,
     working_row_room: usize,
-) -> Decision
+) -> Result<Written, Refusal>
     ensures { DecidesFold growing nodes.now rows.now node_room row_room working_node_room
         working_row_room result }
 {
-    let Shape::Encodings(count) = record_check::check_batch(nodes, rows) else {
-        return Decision::Refused(Refusal::MalformedRecord);
-    };
+    let count = record_check::check_batch(nodes, rows)?;
     let size = fold_size(nodes, rows, count);
     if !record_room::has_room(size, node_room, row_room) {
-        return Decision::Refused(Refusal::NoRoom);
+        return Err(Refusal::NoRoom);
     }
     if !record_room::has_room(size, working_node_room, working_row_room) {
-        return Decision::Refused(Refusal::NoRoom);
+        return Err(Refusal::NoRoom);
     }
     if !join_offsets::fold_fits(nodes, rows, growing) {
-        return Decision::TooLarge;
+        return Err(Refusal::OffsetTooLarge);
     }
-    Decision::Fold {
+    Ok(Written {
         nodes: size.nodes,
         rows: size.rows,
-    }
+    })
 }
 
 // What the fold of a batch of `count` encodings takes. Where none of them has windows it is one node with all the rows.

@@ -21,7 +21,7 @@ pub folded_profile-requires : goal.folded_profile-requires
 folded_profile-requires c = let a = c.requires in record { f = a.f; holds = stores_holds a.stores }
 
 pub size_of-requires : goal.size_of-requires
-size_of-requires c = let a = c.requires in measured_profiled (c.folded_profile.ensures false a.f (stores_holds a.stores))
+size_of-requires c = let a = c.requires in measured_profiled _ _ (c.folded_profile.ensures false a.f (stores_holds a.stores))
 
 pub returns : goal.returns
 returns c = λ g f s. c.size_of.ensures (fold g (listed f)) (c.folded_profile.ensures g f (stores_holds s))
