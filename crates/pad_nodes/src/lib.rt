@@ -41,12 +41,9 @@ fn shift_ranges(nodes: &[u32], i: usize, shift: u32, out: &mut [u32])
     ensures { out.new ≡ sets out.old (i + 2) (flat_map range_numbers
         (map (shifted_present shift) (ranges_at nodes.now i))) }
 {
-    let mut k: usize = 0;
-    let mut at: usize = i + Encoding::RANGES;
-    while k < Encoding::SEQUENCES {
+    for k in 0..Encoding::SEQUENCES {
+        let at = i + Encoding::RANGES + k * Encoding::RANGE_WIDTH;
         shift_range(nodes, at, shift, out);
-        k += 1;
-        at += Encoding::RANGE_WIDTH;
     }
 }
 

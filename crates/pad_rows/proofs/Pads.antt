@@ -30,10 +30,10 @@ module _ (token : PadToken) where
       ∙ ap (flat_map row_numbers) (replicate-append-replicate k 1 (pad_row token))
 
   -- one more after the others
-  pub pads_turn : (k to : ℕ) (was : List ℕ) {at : ℕ} {out out' : List ℕ} {r : Row} → at ≡ to + k * row_width → out ≡ sets was to (pad_numbers token k) → r ≡ pad_row token → out' ≡ sets out at (row_numbers r) → out' ≡ sets was to (pad_numbers token (k + 1))
-  pads_turn k to was {at} {out} {out'} {r} a o e p =
-      let l : at ≡ to + length (pad_numbers token k) = omega (arith, pads_long k) in
-      p ∙ ap (λ (r : Row). sets out at (row_numbers r)) e ∙ rw (o, l) (sets_append was to (pad_numbers token k) (row_numbers (pad_row token)) ∙ ap (sets was to) (pads_more k))
+  pub pads_turn : (k to : ℕ) (was : List ℕ) {out out' : List ℕ} {r : Row} → out ≡ sets was to (pad_numbers token k) → r ≡ pad_row token → out' ≡ sets out (to + k * row_width) (row_numbers r) → out' ≡ sets was to (pad_numbers token (k + 1))
+  pads_turn k to was {out} {out'} {r} o e p =
+      let l : to + k * row_width ≡ to + length (pad_numbers token k) = omega (arith, pads_long k) in
+      p ∙ ap (λ (r : Row). sets out (to + k * row_width) (row_numbers r)) e ∙ rw (o, l) (sets_append was to (pad_numbers token k) (row_numbers (pad_row token)) ∙ ap (sets was to) (pads_more k))
 
 -- ---- Beside the rows of a node
 
@@ -44,12 +44,12 @@ module _ (token : PadToken) (rows : List ℕ) (from size new to : ℕ) (out : Li
   own_long : length own ≡ size * row_width
   own_long = length-take-le (size * row_width) (drop from rows) (omega (arith, length-drop from rows))
 
-  pub rows_left : {out₁ out₂ : List ℕ} {size' new' : ℕ} {d : Direction} → d ≡ Left → size' ≡ size → new' ≡ new → out₁ ≡ sets out to (pad_numbers token new) → out₂ ≡ sets out₁ (to + new' * row_width) (take (size' * row_width) (drop from rows)) → out₂ ≡ sets out to (beside d (pad_numbers token new) own)
-  rows_left {out₁} {out₂} {size'} {new'} {d} e z n p q =
-      two_sets out to (pad_numbers token new) own p (omega (arith, pads_long token new)) (q ∙ ap (λ (k : ℕ). sets out₁ (to + new' * row_width) (take (k * row_width) (drop from rows))) z)
+  pub rows_left : {out₁ out₂ : List ℕ} {d : Direction} → d ≡ Left → out₁ ≡ sets out to (pad_numbers token new) → out₂ ≡ sets out₁ (to + new * row_width) own → out₂ ≡ sets out to (beside d (pad_numbers token new) own)
+  rows_left {out₁} {out₂} {d} e p q =
+      two_sets out to (pad_numbers token new) own p (omega (arith, pads_long token new)) q
       ∙ ap (λ (d : Direction). sets out to (beside d (pad_numbers token new) own)) (sym e)
 
-  pub rows_right : {out₁ out₂ : List ℕ} {size' : ℕ} {d : Direction} → d ≡ Right → size' ≡ size → out₁ ≡ sets out to (take (size' * row_width) (drop from rows)) → out₂ ≡ sets out₁ (to + size' * row_width) (pad_numbers token new) → out₂ ≡ sets out to (beside d (pad_numbers token new) own)
-  rows_right {out₁} {out₂} {size'} {d} e z p q =
-      two_sets out to own (pad_numbers token new) (p ∙ ap (λ (k : ℕ). sets out to (take (k * row_width) (drop from rows))) z) (omega (arith, own_long)) q
+  pub rows_right : {out₁ out₂ : List ℕ} {d : Direction} → d ≡ Right → out₁ ≡ sets out to own → out₂ ≡ sets out₁ (to + size * row_width) (pad_numbers token new) → out₂ ≡ sets out to (beside d (pad_numbers token new) own)
+  rows_right {out₁} {out₂} {d} e p q =
+      two_sets out to own (pad_numbers token new) p (omega (arith, own_long)) q
       ∙ ap (λ (d : Direction). sets out to (beside d (pad_numbers token new) own)) (sym e)

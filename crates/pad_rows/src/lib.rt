@@ -60,12 +60,9 @@ fn write_pads(token: PadToken, count: u32, out: &mut [u32], to: usize)
     requires { to + count * row_width ≤ length out.old }
     ensures { out.new ≡ sets out.old to (pad_numbers token count) }
 {
-    let mut k: u32 = 0;
-    let mut at = to;
-    while k < count {
+    for k in 0..count {
+        let at = to + k as usize * Encoding::ROW_WIDTH;
         record_write::write_row(out, at, pad_row(token));
-        k += 1;
-        at += Encoding::ROW_WIDTH;
     }
 }
 

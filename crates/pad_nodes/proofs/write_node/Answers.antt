@@ -1,12 +1,8 @@
 -- `write_node` writes the two counts of a node and then its ranges. Assumes nothing.
-use mathlib.Core.Path.{◌∙◌}
 use native.Mathlib.Omega.{arith}
 use lib.ListN.{length-set}
 use Rattle.pad_nodes.proofs.Ranges.{node_left, node_right}
 use Rattle.pad_nodes.proofs.write_node.Goals as goal
-
-pub bounds-out-i-2 : goal.bounds-out-i-2
-bounds-out-i-2 c = simp length-set (omega arith)
 
 pub shift_ranges-requires : goal.shift_ranges-requires
 shift_ranges-requires c =
@@ -16,15 +12,9 @@ shift_ranges-requires c =
 pub copy-requires : goal.copy-requires
 copy-requires c = let a = c.requires in (omega (arith, a.stands), simp length-set (omega (arith, a.fits)))
 
-pub shape_of-out-in-Left : goal.shape_of-out-in-Left
-shape_of-out-in-Left c = c.shift_ranges.auto.out ∙ simp length-set
-
 pub returns-in-Left : goal.returns-in-Left
 returns-in-Left c =
     node_left c.args.nodes.now c.args.i c.args.count c.args.new c.args.out.now c.in-Left.is c.shift_ranges.ensures
-
-pub shape_of-out-in-Right : goal.shape_of-out-in-Right
-shape_of-out-in-Right c = c.copy.auto.dst ∙ simp length-set
 
 pub returns-in-Right : goal.returns-in-Right
 returns-in-Right c =
