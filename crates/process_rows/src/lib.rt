@@ -67,11 +67,9 @@ pub fn rows_of_steps(
     let of_first = rows_at(nodes, 0);
     let of_second = rows_at(nodes, second);
     let mut rows: usize = 0;
-    let mut i: usize = 0;
-    while i < count {
+    for i in 0..count {
         let step = process_steps::step_at(steps, i);
         rows += rows_of(entries, step, of_first, of_second) as usize;
-        i += 1;
     }
     rows
 }

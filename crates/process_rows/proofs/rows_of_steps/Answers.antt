@@ -1,5 +1,4 @@
 -- `rows_of_steps` adds up what each step joins. Assumes nothing.
-use mathlib.Core.Path.{◌∙◌}
 use mathlib.Core.Option.{some}
 use native.Mathlib.Omega.{arith}
 use Rattle.process_rows.proofs.Alone.{alone_empty}
@@ -25,13 +24,13 @@ rows_of-requires c = let a = c.requires in step_there a.steps_of c.loop-i-test.t
 pub overflow_add-rows : goal.overflow_add-rows
 overflow_add-rows c =
     let a = c.requires in
-    omega (arith, c.loop-i.invariant.0, c.loop-i-test.true, a.steps_of.few, c.wide-rows.ensures, c.rows_of.type_inv)
+    omega (arith, c.loop-i.invariant.0, c.loop-i-test.true, a.steps_of.few, c.rows_of.type_inv)
 
 pub loop-i-preserved : goal.loop-i-preserved
 loop-i-preserved c = (
-  omega (arith, c.loop-i.invariant.0, c.wide-rows.ensures, c.rows_of.type_inv),
+  omega (arith, c.loop-i.invariant.0, c.rows_of.type_inv),
   λ members E o list h e f.
-      rows_more h c.loop-i-test.true c.step_at-step.ensures c.rows_at-of_first.ensures c.rows_at-of_second.ensures e f (c.wide-rows.ensures ∙ c.rows_of.ensures) (c.loop-i.invariant.1 members E o list h e f),
+      rows_more h c.loop-i-test.true c.step_at-step.ensures c.rows_at-of_first.ensures c.rows_at-of_second.ensures e f c.rows_of.ensures (c.loop-i.invariant.1 members E o list h e f),
 )
 
 pub returns : goal.returns
