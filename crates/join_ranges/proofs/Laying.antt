@@ -63,57 +63,53 @@ bounds : {n : ℕ} {p : Range} → RangeFine n p → (p.start ≤ n) × (p.end �
 bounds (inl e) = (omega (arith, ap (λ (p : Range). p.start) e), omega (arith, ap (λ (p : Range). p.end) e))
 bounds (inr (h, f, t)) = (omega arith, omega arith)
 
--- the ranges of the first k sequences are laid, and those of the next stand at `to` and `from`
-pub record Laying (shift : ℕ) (before : List ℕ) (at : ℕ) (nodes' : List ℕ) (i : ℕ) (now : List ℕ) (to from k : ℕ) : Type 0 where
-  pub within : k ≤ sequences
-  pub to_is : to ≡ ranges_of at + k * 3
-  pub from_is : from ≡ ranges_of i + k * 3
+-- the ranges of the first k sequences are laid
+pub record Laying (shift : ℕ) (before : List ℕ) (at : ℕ) (nodes' : List ℕ) (i : ℕ) (now : List ℕ) (k : ℕ) : Type 0 where
   pub long : length now ≡ length before
   pub laid : (P : Encoding) → NodeAt nodes' i P → (q : List Range) → RangesAt before at q → now ≡ sets before (ranges_of at) (flat_map range_numbers (take k (join_ranges shift q P.ranges)))
 
-pub laying_start : (shift : ℕ) (before : List ℕ) (at : ℕ) (nodes' : List ℕ) (i : ℕ) → Laying shift before at nodes' i before (ranges_of at) (ranges_of i) 0
+pub laying_start : (shift : ℕ) (before : List ℕ) (at : ℕ) (nodes' : List ℕ) (i : ℕ) → Laying shift before at nodes' i before 0
 unfolding flat_map
-laying_start shift before at nodes' i = record { within = omega arith; to_is = omega arith; from_is = omega arith; long = refl; laid = λ P p q h. refl }
+laying_start shift before at nodes' i = record { long = refl; laid = λ P p q h. refl }
 
-module _ {shift : ℕ} {before : List ℕ} {at : ℕ} {nodes' : List ℕ} {i : ℕ} {now : List ℕ} {to from k : ℕ} (l : Laying shift before at nodes' i now to from k) where
+module _ {shift : ℕ} {before : List ℕ} {at : ℕ} {nodes' : List ℕ} {i : ℕ} {now : List ℕ} {k : ℕ} (l : Laying shift before at nodes' i now k) where
   joined_long : (P : Encoding) → NodeAt nodes' i P → (q : List Range) → RangesAt before at q → length (join_ranges shift q P.ranges) ≡ sequences
   joined_long P p q h = length_join_ranges shift sequences q P.ranges h.places p.fine.places
-
-  next_range : (P : Encoding) → NodeAt nodes' i P → k < sequences → Stretch nodes' from (range_numbers (get_or P.ranges k absent))
-  next_range P p b = rw l.from_is (element_stands range_stored nodes' (ranges_of i) P.ranges k absent (node_ranges p).there (omega (arith, p.fine.places)))
 
   next_fine : (P : Encoding) → NodeAt nodes' i P → k < sequences → RangeFine (length P.rows) (get_or P.ranges k absent)
   next_fine P p b = all_at (RangeFine (length P.rows)) P.ranges k absent (omega (arith, p.fine.places)) p.fine.ranges_fine
 
-  pub laying_asks : AskRanges before at shift nodes' i Plain → k < sequences → AskRange now to shift nodes' from
-  laying_asks ask b =
-      let u = bounds_there (get_or ask.P.ranges k absent) (next_range ask.P ask.there b) in
-      let f = bounds (next_fine ask.P ask.there b) in
-      record {
-        fits = omega (arith, l.to_is, l.long, ask.fits);
-        inside = omega (arith, l.from_is, ask.there.inside);
-        start_within = omega (arith, u.0, f.0, ask.few_rows);
-        end_within = omega (arith, u.1, f.1, ask.few_rows);
-      }
+  -- the next ones stand at `to` and `from`
+  module _ {to from : ℕ} (to_is : to ≡ ranges_of at + k * 3) (from_is : from ≡ ranges_of i + k * 3) (b : k < sequences) where
+    next_range : (P : Encoding) → NodeAt nodes' i P → Stretch nodes' from (range_numbers (get_or P.ranges k absent))
+    next_range P p = rw from_is (element_stands range_stored nodes' (ranges_of i) P.ranges k absent (node_ranges p).there (omega (arith, p.fine.places)))
 
-  pub laying_on : {now' : List ℕ} → k < sequences → length now' ≡ length now → LaysRange now to shift nodes' from now' → Laying shift before at nodes' i now' (to + 3) (from + 3) (k + 1)
-  laying_on {now'} b n step =
-      record {
-        within = omega arith;
-        to_is = omega (arith, l.to_is);
-        from_is = omega (arith, l.from_is);
-        long = n ∙ l.long;
-        laid = λ P p q h.
-            let ys = join_ranges shift q P.ranges in
-            let s = get_or q k absent in
-            let r = get_or P.ranges k absent in
-            let stands : Stretch now to (range_numbers s) = rw (l.to_is, l.laid P p q h) (next_stands range_stored before (ranges_of at) q ys k absent h.there (joined_long P p q h ∙ sym h.places) (omega (arith, h.places))) in
-            step.laid s r stands (next_range P p b) (marks (next_fine P p b))
-            ∙ ap₂ (λ (j : ℕ) (m : List ℕ). sets m j (range_numbers (choose r.present shift s r))) l.to_is (l.laid P p q h)
-            ∙ ap (λ (c : Range). sets (sets before (ranges_of at) (flat_map range_numbers (take k ys))) (ranges_of at + k * 3) (range_numbers c)) (sym (range_at_lem shift q P.ranges k absent (omega (arith, h.places)) (omega (arith, p.fine.places))))
-            ∙ next_written range_stored before (ranges_of at) ys k absent (omega (arith, joined_long P p q h))
-            ∙ ap (λ (m : ℕ). sets before (ranges_of at) (flat_map range_numbers (take m ys))) (sym (add-one k));
-      }
+    pub laying_asks : AskRanges before at shift nodes' i Plain → AskRange now to shift nodes' from
+    laying_asks ask =
+        let u = bounds_there (get_or ask.P.ranges k absent) (next_range ask.P ask.there) in
+        let f = bounds (next_fine ask.P ask.there b) in
+        record {
+          fits = omega (arith, l.long, ask.fits);
+          inside = omega (arith, ask.there.inside);
+          start_within = omega (arith, u.0, f.0, ask.few_rows);
+          end_within = omega (arith, u.1, f.1, ask.few_rows);
+        }
+
+    pub laying_on : {now' : List ℕ} → length now' ≡ length now → LaysRange now to shift nodes' from now' → Laying shift before at nodes' i now' (k + 1)
+    laying_on {now'} n step =
+        record {
+          long = n ∙ l.long;
+          laid = λ P p q h.
+              let ys = join_ranges shift q P.ranges in
+              let s = get_or q k absent in
+              let r = get_or P.ranges k absent in
+              let stands : Stretch now to (range_numbers s) = rw (to_is, l.laid P p q h) (next_stands range_stored before (ranges_of at) q ys k absent h.there (joined_long P p q h ∙ sym h.places) (omega (arith, h.places))) in
+              step.laid s r stands (next_range P p) (marks (next_fine P p b))
+              ∙ ap₂ (λ (j : ℕ) (m : List ℕ). sets m j (range_numbers (choose r.present shift s r))) to_is (l.laid P p q h)
+              ∙ ap (λ (c : Range). sets (sets before (ranges_of at) (flat_map range_numbers (take k ys))) (ranges_of at + k * 3) (range_numbers c)) (sym (range_at_lem shift q P.ranges k absent (omega (arith, h.places)) (omega (arith, p.fine.places))))
+              ∙ next_written range_stored before (ranges_of at) ys k absent (omega (arith, joined_long P p q h))
+              ∙ ap (λ (m : ℕ). sets before (ranges_of at) (flat_map range_numbers (take m ys))) (sym (add-one k));
+        }
 
   pub laying_end : k ≡ sequences → LaysRanges Plain before at shift nodes' i now
   laying_end e =

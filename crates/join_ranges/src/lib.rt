@@ -26,14 +26,9 @@ pub fn lay_present(nodes: &mut [u32], at: usize, shift: u32, p_nodes: &[u32], i:
     requires { AskRanges nodes.old at shift p_nodes.now i View.Plain }
     ensures { LaysRanges View.Plain nodes.old at shift p_nodes.now i nodes.new }
 {
-    let mut to = at + Encoding::RANGES;
-    let mut from = i + Encoding::RANGES;
-    let mut k: usize = 0;
-    while k < Encoding::SEQUENCES {
-        lay_range(nodes, to, shift, p_nodes, from);
-        to += Encoding::RANGE_WIDTH;
-        from += Encoding::RANGE_WIDTH;
-        k += 1;
+    for k in 0..Encoding::SEQUENCES {
+        let of_k = Encoding::RANGES + k * Encoding::RANGE_WIDTH;
+        lay_range(nodes, at + of_k, shift, p_nodes, i + of_k);
     }
 }
 

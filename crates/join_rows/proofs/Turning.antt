@@ -1,8 +1,8 @@
 -- The loops that change rows in place: after i turns the first i rows are changed, and the others are as they were.
 -- Assumes nothing.
-use mathlib.Core.Path.{◌≡◌, refl, sym, ap, ap₂, ◌∙◌}
+use mathlib.Core.Path.{◌≡◌, refl, sym, ap, ◌∙◌}
 use mathlib.Core.List.{List, ◌++◌, flat_map, map}
-use Prim.Native.Nat.{ℕ, ◌+◌, ◌*◌, ◌≤◌, ◌<◌}
+use Prim.Native.Nat.{ℕ, ◌+◌, ◌*◌, ◌<◌}
 use native.Mathlib.Numerals.{add-one}
 use native.Mathlib.Omega.{arith}
 use lib.ListN.{length, get_or, take, set, length-map, get_or-map}
@@ -40,31 +40,27 @@ rows_there h = sym (stands_same (rows_stretch h))
 
 -- ---- One row after another
 
--- the first i of `count` rows at j are changed by f, and the next stands at `place`
-pub record Turning (f : Row → Row) (before : List ℕ) (j count : ℕ) (now : List ℕ) (place i : ℕ) : Type 0 where
-  pub within : i ≤ count
-  pub place_is : place ≡ j + i * row_width
+-- the first i of `count` rows at j are changed by f
+pub record Turning (f : Row → Row) (before : List ℕ) (j count : ℕ) (now : List ℕ) (i : ℕ) : Type 0 where
   pub long : length now ≡ length before
   pub changed : (R : List Row) → RowsAt before j R → length R ≡ count → now ≡ sets before j (flat_map row_numbers (take i (map f R)))
 
-pub turning_start : (f : Row → Row) (before : List ℕ) (j count : ℕ) → Turning f before j count before j 0
+pub turning_start : (f : Row → Row) (before : List ℕ) (j count : ℕ) → Turning f before j count before 0
 unfolding flat_map
-turning_start f before j count = record { within = omega arith; place_is = omega arith; long = refl; changed = λ R h n. refl }
+turning_start f before j count = record { long = refl; changed = λ R h n. refl }
 
-module _ {f : Row → Row} {before : List ℕ} {j count : ℕ} {now : List ℕ} {place i : ℕ} (t : Turning f before j count now place i) where
-  pub turning_row : (R : List Row) → RowsAt before j R → length R ≡ count → i < count → (d : Row) → Stretch now place (row_numbers (get_or R i d))
+module _ {f : Row → Row} {before : List ℕ} {j count : ℕ} {now : List ℕ} {i : ℕ} (t : Turning f before j count now i) where
+  turning_row : (R : List Row) → RowsAt before j R → length R ≡ count → i < count → (d : Row) → Stretch now (j + i * row_width) (row_numbers (get_or R i d))
   turning_row R h n k d =
-      rw (t.place_is, t.changed R h n) (next_stands row_stored before j R (map f R) i d (rows_stretch h) (length-map R f) (omega arith))
+      rw (t.changed R h n) (next_stands row_stored before j R (map f R) i d (rows_stretch h) (length-map R f) (omega arith))
 
-  pub turning_on : {now' : List ℕ} → i < count → length now' ≡ length now → ((r : Row) → Stretch now place (row_numbers r) → now' ≡ sets now place (row_numbers (f r))) → Turning f before j count now' (place + row_width) (i + 1)
+  pub turning_on : {now' : List ℕ} → i < count → length now' ≡ length now → ((r : Row) → Stretch now (j + i * row_width) (row_numbers r) → now' ≡ sets now (j + i * row_width) (row_numbers (f r))) → Turning f before j count now' (i + 1)
   turning_on {now'} k l step =
       record {
-        within = omega arith;
-        place_is = omega (arith, t.place_is);
         long = l ∙ t.long;
         changed = λ R h n.
             step (get_or R i blank) (turning_row R h n k blank)
-            ∙ ap₂ (λ (p : ℕ) (l : List ℕ). sets l p (row_numbers (f (get_or R i blank)))) t.place_is (t.changed R h n)
+            ∙ ap (λ (l : List ℕ). sets l (j + i * row_width) (row_numbers (f (get_or R i blank)))) (t.changed R h n)
             ∙ ap (λ (r : Row). sets (sets before j (flat_map row_numbers (take i (map f R)))) (j + i * row_width) (row_numbers r)) (sym (get_or-map f R i blank))
             ∙ next_written row_stored before j (map f R) i (f blank) (omega (arith, length-map R f))
             ∙ ap (λ (m : ℕ). sets before j (flat_map row_numbers (take m (map f R)))) (sym (add-one i));

@@ -86,11 +86,7 @@ pub fn set_types(rows: &mut [u32], at: usize, count: usize, type_id: u32)
     ensures { MakesRows (map (typed_row type_id)) rows.old at count rows.old at
         rows.new }
 {
-    let mut place = at;
-    let mut i: usize = 0;
-    while i < count {
-        rows[place + Column::TYPE_ID] = type_id;
-        place += Encoding::ROW_WIDTH;
-        i += 1;
+    for i in 0..count {
+        rows[at + i * Encoding::ROW_WIDTH + Column::TYPE_ID] = type_id;
     }
 }

@@ -1,5 +1,4 @@
 -- `set_types` sets the type of each row: after i turns, of the first i. Assumes nothing.
-use Prim.Native.Nat.{◌-◌}
 use lib.ListN.{length-set}
 use Rattle.join_rows.proofs.Turning.{turning_start, turning_on, turning_end, typed_there}
 use native.Mathlib.Omega.{arith}
