@@ -15,10 +15,10 @@ use Rattle.record.specs.WellFormed.{most_rows}
 use Rattle.cut_plan.specs.declared.Direction.{Direction}
 use Rattle.cut_plan.specs.declared.Direction.TheVariants.{Left, Right}
 use Rattle.lines.specs.Decimal.{zero_byte, nine_byte, most_digits, largest_u32, is_digit, digits_of, decimal, decimal_after, number_at}
-use Rattle.lines.specs.declared.Number.TheVariants.{Read}
+use Rattle.std.specs.Prelude.{Option, Some}
+use Rattle.lines.specs.declared.Number.{Number}
 use Rattle.listing_text.specs.Text.{digits_up_to, number_text}
 use Rattle.listing_request.specs.Asked.{space_byte, letter_l, letter_r, spaced, field_at, with_letter, request, cut_within, asked_of}
-use Rattle.listing_request.specs.declared.Asked.TheVariants.{Cut}
 use Rattle.listing_text.proofs.Text.{last_of, digits_one, digits_more, number_few}
 use Rattle.listing.proofs.Lines.{field, length_field}
 use Rattle.listing_request.proofs.Fields.{spaced_space, asked_third}
@@ -78,13 +78,17 @@ number_some n = omega (arith, length-append (cond (ltb n 10) [] (digits_up_to 9 
 
 -- ---- Reading back
 
+-- a number that was read, and the place after it
+abbrev pub read : ℕ → ℕ → Option Number
+read value next = Some (record { value = value; next = next })
+
 -- a number that stands in a text before no digit
-pub number_back : (before rest : List ℕ) (n : ℕ) → n ≤ largest_u32 → digits_of rest ≡ [] → number_at (before ++ (number_text n ++ rest)) (length before) ≡ Read n (length before + length (number_text n))
+pub number_back : (before rest : List ℕ) (n : ℕ) → n ≤ largest_u32 → digits_of rest ≡ [] → number_at (before ++ (number_text n ++ rest)) (length before) ≡ read n (length before + length (number_text n))
 number_back before rest n h e =
     rw (drop_at before (number_text n ++ rest) (length before) refl, digits_of_lem (number_text n) rest (all_digits most_digits n) e, value_is 9 n (omega arith), le-leb 1 (length (number_text n)) (number_some n), le-leb (length (number_text n)) most_digits (number_few n), le-leb n largest_u32 h)
 
 -- a field
-pub field_back : (before rest : List ℕ) (n : ℕ) → n ≤ largest_u32 → field_at (before ++ (field n space_byte ++ rest)) (length before) ≡ Read n (length (before ++ field n space_byte))
+pub field_back : (before rest : List ℕ) (n : ℕ) → n ≤ largest_u32 → field_at (before ++ (field n space_byte ++ rest)) (length before) ≡ read n (length (before ++ field n space_byte))
 unfolding digits_of
 field_back before rest n h =
     let line = before ++ (number_text n ++ (space_byte ∷ rest)) in
@@ -93,7 +97,7 @@ field_back before rest n h =
     let space : get_or line next 0 ≡ space_byte = get_or-append-add before (number_text n ++ (space_byte ∷ rest)) (length (number_text n)) 0 ∙ ap (λ (k : ℕ). get_or (number_text n ++ (space_byte ∷ rest)) k 0) (sym (add-zero (length (number_text n)))) ∙ get_or-append-add (number_text n) (space_byte ∷ rest) 0 0 in
     let ends : next + 1 ≡ length (before ++ field n space_byte) = omega (arith, length-append before (field n space_byte), length_field n space_byte) in
     ap (λ (l : List ℕ). field_at (before ++ l) (length before)) (append_assoc (number_text n) (space_byte ∷ []) rest) ∙ ap (spaced line) (number_back before (space_byte ∷ rest) n h refl)
-    ∙ sym (spaced_space line n next inside space) ∙ ap (Read n) ends
+    ∙ sym (spaced_space line (record { value = n; next = next }) inside space) ∙ ap (read n) ends
 
 -- a line that asks for a cut
 abbrev pub letter_of : Direction → ℕ
@@ -103,16 +107,16 @@ letter_of Right = letter_r
 abbrev pub asking : ℕ → ℕ → ℕ → Direction → List ℕ
 asking rows max stride d = field rows space_byte ++ (field max space_byte ++ (field stride space_byte ++ (letter_of d ∷ [])))
 
-pub asked_back : (rows max stride : ℕ) (d : Direction) → rows ≤ most_rows → max ≤ largest_u32 → stride ≤ largest_u32 → asked_of (asking rows max stride d) ≡ Cut (request rows max stride d)
+pub asked_back : (rows max stride : ℕ) (d : Direction) → rows ≤ most_rows → max ≤ largest_u32 → stride ≤ largest_u32 → asked_of (asking rows max stride d) ≡ Some (request rows max stride d)
 asked_back rows max stride d a b c =
     let f₁ = field rows space_byte in
     let f₂ = field max space_byte in
     let f₃ = field stride space_byte in
     let tail = letter_of d ∷ [] in
     let line = asking rows max stride d in
-    let e₁ : Read rows (length f₁) ≡ field_at line 0 = sym (field_back [] (f₂ ++ (f₃ ++ tail)) rows (omega arith)) in
-    let e₂ : Read max (length (f₁ ++ f₂)) ≡ field_at line (length f₁) = sym (field_back f₁ (f₃ ++ tail) max b) in
-    let e₃ : Read stride (length ((f₁ ++ f₂) ++ f₃)) ≡ field_at line (length (f₁ ++ f₂)) = sym (ap (λ (l : List ℕ). field_at l (length (f₁ ++ f₂))) (sym (append_assoc f₁ f₂ (f₃ ++ tail))) ∙ field_back (f₁ ++ f₂) tail stride c) in
+    let e₁ : read rows (length f₁) ≡ field_at line 0 = sym (field_back [] (f₂ ++ (f₃ ++ tail)) rows (omega arith)) in
+    let e₂ : read max (length (f₁ ++ f₂)) ≡ field_at line (length f₁) = sym (field_back f₁ (f₃ ++ tail) max b) in
+    let e₃ : read stride (length ((f₁ ++ f₂) ++ f₃)) ≡ field_at line (length (f₁ ++ f₂)) = sym (ap (λ (l : List ℕ). field_at l (length (f₁ ++ f₂))) (sym (append_assoc f₁ f₂ (f₃ ++ tail))) ∙ field_back (f₁ ++ f₂) tail stride c) in
     let whole : line ≡ ((f₁ ++ f₂) ++ f₃) ++ tail = simp append_assoc in
     let left : drop (length ((f₁ ++ f₂) ++ f₃)) line ≡ tail = ap (drop (length ((f₁ ++ f₂) ++ f₃))) whole ∙ drop_at ((f₁ ++ f₂) ++ f₃) tail (length ((f₁ ++ f₂) ++ f₃)) refl in
     asked_third line e₁ e₂ e₃ ∙ ap (λ (l : List ℕ). with_letter l (cut_within rows max stride)) left ∙ letter d ∙ rw (le-leb rows most_rows a)

@@ -16,8 +16,7 @@ use Rattle.listing.specs.Answer.{windows_by, windows_listed, count_line, first_b
 use Rattle.listing.specs.Promises.{longest_line, ReadyOutput}
 use Rattle.listing_text.specs.Promises.{WroteText}
 use Rattle.listing_request.specs.declared.Request.{Request}
-use Rattle.listing_request.specs.declared.Asked.{Asked}
-use Rattle.listing_request.specs.declared.Asked.TheVariants.{BadLine, Cut}
+use Rattle.std.specs.Prelude.{Option, Some, None}
 use Rattle.listing_text.proofs.Text.{number_few}
 use Rattle.listing_text.proofs.Wrote.{wrote_long}
 
@@ -32,11 +31,11 @@ module _ (q : Request) {k : Decision} (e : k ≡ decision_of q.rows q.max q.stri
   pub window_by : (i : ℕ) → get_or (windows_by k q) i (bounds 0 0) ≡ get_or (windows_listed q) i (bounds 0 0)
   window_by i = ap (λ (l : List Bounds). get_or l i (bounds 0 0)) (sym listed_by)
 
-  pub first_by_lem : first_by k (length (windows_listed q)) ≡ first_line (Cut q)
+  pub first_by_lem : first_by k (length (windows_listed q)) ≡ first_line (Some q)
   unfolding first_line
   first_by_lem = ap (λ (x : Decision). first_by x (length (windows_listed q))) e
 
-pub first_bad : bytes "bad line\n" ≡ first_line BadLine
+pub first_bad : bytes "bad line\n" ≡ first_line None
 unfolding first_line
 first_bad = refl
 
@@ -53,10 +52,10 @@ former_other rows (suc zero) h = absurd (h refl)
 former_other rows (suc (suc i)) h = refl
 
 -- the first line has room where a line has
-pub first_few : (a : Asked) → length (first_line a) ≤ longest_line
+pub first_few : (a : Option Request) → length (first_line a) ≤ longest_line
 unfolding first_line count_line
-first_few BadLine = omega arith
-first_few (Cut q) = go (decision_of q.rows q.max q.stride) (length (windows_listed q))
+first_few None = omega arith
+first_few (Some q) = go (decision_of q.rows q.max q.stride) (length (windows_listed q))
   where
     go : (k : Decision) (n : ℕ) → length (first_by k n) ≤ longest_line
     go Whole n = omega arith
@@ -65,5 +64,5 @@ first_few (Cut q) = go (decision_of q.rows q.max q.stride) (length (windows_list
     go (Windows k) n = omega (arith, length-append (number_text n) (bytes "\n"), number_few n)
 
 -- with the first line behind what waits, the output is as ready as before
-pub first_ready : (a : Asked) {out out' : List ℕ} {waiting at next : ℕ} → ReadyOutput out waiting → at + longest_line ≤ length out → WroteText (first_line a) out at next out' → ReadyOutput out' next
+pub first_ready : (a : Option Request) {out out' : List ℕ} {waiting at next : ℕ} → ReadyOutput out waiting → at + longest_line ≤ length out → WroteText (first_line a) out at next out' → ReadyOutput out' next
 first_ready a h r w = record { long = omega (arith, h.long, wrote_long w); inside = omega (arith, w.ends, wrote_long w, first_few a) }

@@ -1,6 +1,6 @@
 -- What the window lister answers to a line (document 01, "The window lister").
 -- Assumes nothing: these are definitions.
-use Rattle.std.specs.Prelude.{ℕ, suc, List, [], ◌∷◌, ◌++◌, length}
+use Rattle.std.specs.Prelude.{ℕ, suc, List, [], ◌∷◌, ◌++◌, length, Option, Some, None}
 use Rattle.cut_plan.specs.Cut.{bounds, windows_of, decision_of}
 use Rattle.record.specs.declared.Bounds.{Bounds}
 use Rattle.cut_plan.specs.declared.Decision.{Decision}
@@ -8,8 +8,6 @@ use Rattle.cut_plan.specs.declared.Decision.TheVariants.{Whole, Emptied, StrideR
 use Rattle.listing_text.specs.Text.{bytes, number_text}
 use Rattle.listing_request.specs.Asked.{asked_of}
 use Rattle.listing_request.specs.declared.Request.{Request}
-use Rattle.listing_request.specs.declared.Asked.{Asked}
-use Rattle.listing_request.specs.declared.Asked.TheVariants.{BadLine, Cut}
 
 -- the windows that are listed, by the decision on the cut. "Max 0 with rows prints two windows, the first `0 0 0`": the
 -- other is the whole former encoding
@@ -34,9 +32,9 @@ first_by StrideRefused n = bytes "refused 3\n"
 first_by (Windows k) n = count_line n
 
 -- "or `bad line` for any other line"
-unfoldable pub first_line : Asked → List ℕ
-first_line BadLine = bytes "bad line\n"
-first_line (Cut q) = first_by (decision_of q.rows q.max q.stride) (length (windows_listed q))
+unfoldable pub first_line : Option Request → List ℕ
+first_line None = bytes "bad line\n"
+first_line (Some q) = first_by (decision_of q.rows q.max q.stride) (length (windows_listed q))
 
 -- "per window its number (0 is the kept one), first row and row after the last"
 unfoldable pub window_line : ℕ → Bounds → List ℕ
@@ -47,9 +45,9 @@ unfoldable pub window_lines : ℕ → List Bounds → List ℕ
 window_lines i [] = []
 window_lines i (b ∷ bs) = window_line i b ++ window_lines (suc i) bs
 
-abbrev pub windows_of_asked : Asked → List Bounds
-windows_of_asked BadLine = []
-windows_of_asked (Cut q) = windows_listed q
+abbrev pub windows_of_asked : Option Request → List Bounds
+windows_of_asked None = []
+windows_of_asked (Some q) = windows_listed q
 
 -- the whole answer to a line
 unfoldable pub answer_of : List ℕ → List ℕ

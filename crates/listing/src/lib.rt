@@ -1,14 +1,14 @@
 // The lines with which the window lister answers (document 01).
 #![tactic(auto)]
 
-ghost use Rattle.std.specs.Prelude.{[], ◌∷◌, ◌≡◌, ◌≤◌, length, get_or};
+ghost use Rattle.std.specs.Prelude.{Some, [], ◌∷◌, ◌≡◌, ◌≤◌, length, get_or};
 ghost use Rattle.cut_plan.specs.Cut.{bounds};
 ghost use Rattle.listing_text.specs.Promises.{WroteText};
 ghost use Rattle.listing.specs.Answer.{windows_listed, count_line, first_line, window_line};
 ghost use Rattle.listing.specs.Promises.{LineRoom, Lists};
 
 use cut_plan::Decision;
-use listing_request::{Asked, Request};
+use listing_request::Request;
 use record::Bounds;
 
 const SPACE: u8 = b' ';
@@ -71,19 +71,19 @@ fn write_window(number: u32, window: Bounds, out: &mut [u8], at: usize) -> usize
 }
 
 // The first line of an answer.
-pub fn write_first(asked: Asked, out: &mut [u8], at: usize) -> usize
+pub fn write_first(asked: Option<Request>, out: &mut [u8], at: usize) -> usize
     requires { LineRoom out.old at }
     ensures { WroteText (first_line asked) out.old at result out.new }
 {
     match asked {
-        Asked::BadLine => listing_text::write_text(b"bad line\n", out, at),
-        Asked::Cut(request) => write_decision(request, out, at),
+        None => listing_text::write_text(b"bad line\n", out, at),
+        Some(request) => write_decision(request, out, at),
     }
 }
 
 fn write_decision(request: Request, out: &mut [u8], at: usize) -> usize
     requires { LineRoom out.old at }
-    ensures { WroteText (first_line (Asked.Cut request)) out.old at result out.new }
+    ensures { WroteText (first_line (Some request)) out.old at result out.new }
 {
     let decision = cut_plan::decide(request.rows, request.max, request.stride);
     match decision {
@@ -118,6 +118,7 @@ pub fn write_windows(request: Request, from: u32, out: &mut [u8], at: usize) -> 
     let all = count(request);
     let mut next = from;
     let mut place = at;
+    // A while: the answer tells which window comes next, which a range forgets.
     while next < all {
         if out.len() - place < LONGEST {
             break;

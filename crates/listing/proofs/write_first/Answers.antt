@@ -5,14 +5,14 @@ use Rattle.listing_text.proofs.Wrote.{wrote_as}
 use Rattle.listing.proofs.Choosing.{first_bad}
 use Rattle.listing.proofs.write_first.Goals as goal
 
-pub shape_of-out-in-BadLine : goal.shape_of-out-in-BadLine
-shape_of-out-in-BadLine c = c.write_text.auto.out
+pub shape_of-out-in-None : goal.shape_of-out-in-None
+shape_of-out-in-None c = c.write_text.auto.out
 
-pub returns-in-BadLine : goal.returns-in-BadLine
-returns-in-BadLine c = wrote_as (first_bad ∙ ap first_line (sym c.in-BadLine.is)) c.write_text.ensures
+pub returns-in-None : goal.returns-in-None
+returns-in-None c = wrote_as (first_bad ∙ ap first_line (sym c.in-None.is)) c.write_text.ensures
 
-pub shape_of-out-in-Cut : goal.shape_of-out-in-Cut
-shape_of-out-in-Cut c = c.write_decision.auto.out
+pub shape_of-out-in-Some : goal.shape_of-out-in-Some
+shape_of-out-in-Some c = c.write_decision.auto.out
 
-pub returns-in-Cut : goal.returns-in-Cut
-returns-in-Cut c = wrote_as (ap first_line (sym c.in-Cut.is)) c.write_decision.ensures
+pub returns-in-Some : goal.returns-in-Some
+returns-in-Some c = wrote_as (ap first_line (sym c.in-Some.is)) c.write_decision.ensures
