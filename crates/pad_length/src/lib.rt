@@ -31,11 +31,7 @@ pub fn rounded_length(length: u64, multiple: u64) -> u64
         return length;
     }
     let missing = multiple - over;
-    if missing <= u64::MAX - length {
-        length + missing
-    } else {
-        u64::MAX
-    }
+    length.saturating_add(missing)
 }
 
 // The length that the strategy gives, before it is rounded.

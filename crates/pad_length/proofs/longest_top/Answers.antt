@@ -18,8 +18,8 @@ pub loop-i-preserved-then-pending-eq0 : goal.loop-i-preserved-then-pending-eq0
 loop-i-preserved-then-pending-eq0 c =
     let p = c.requires in (
       omega (arith, searching_fits (c.loop-i.invariant.2 p.0 p.1) c.loop-i-test.true),
-      omega (arith, c.larger_number-most.ensures, c.loop-i.invariant.1, c.type_inv.nodes c.loop-i.i),
-      λ f h. rw c.larger_number-most.ensures (searching_top (c.loop-i.invariant.2 f h) c.loop-i-test.true c.if-pending-eq0.true),
+      omega (arith, c.max-most.ensures, c.loop-i.invariant.1, c.type_inv.nodes c.loop-i.i),
+      λ f h. rw c.max-most.ensures (searching_top (c.loop-i.invariant.2 f h) c.loop-i-test.true c.if-pending-eq0.true),
     )
 
 pub overflow_add-pending : goal.overflow_add-pending

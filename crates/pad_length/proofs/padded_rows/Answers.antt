@@ -1,8 +1,5 @@
 -- `padded_rows` adds up the rows node by node. Few nodes of 32 bits each fit. Assumes nothing.
-use mathlib.Core.Path.{◌≡◌, ◌∙◌}
-use Prim.Native.Nat.{max}
 use native.Mathlib.Omega.{arith}
-use lib.ListN.{get_or}
 use Rattle.record.proofs.Passing.{nodes_few}
 use Rattle.pad_length.proofs.Summing.{summing_start, summing_fits, summing_turn, summing_end}
 use Rattle.pad_length.proofs.padded_rows.Goals as goal
@@ -13,18 +10,15 @@ pub loop-i-init : goal.loop-i-init
 loop-i-init c = (omega arith, omega arith, λ f h. summing_start _ h)
 
 pub overflow_add-total : goal.overflow_add-total
-overflow_add-total c =
-    let rows_here : c.wide-total.result ≡ max (get_or c.args.nodes.now c.loop-i.i 0) c.args.target = c.wide-total.ensures ∙ c.larger_number.ensures in
-    omega (arith, c.type_inv.nodes c.loop-i.i, nodes_few c.requires.1)
+overflow_add-total c = omega (arith, c.type_inv.nodes c.loop-i.i, nodes_few c.requires.1)
 
 pub loop-i-preserved : goal.loop-i-preserved
 loop-i-preserved c =
     let p = c.requires in
-    let fits = summing_fits (c.loop-i.invariant.2 p.0 p.1) c.loop-i-test.true in
-    let rows_here : c.wide-total.result ≡ max (get_or c.args.nodes.now c.loop-i.i 0) c.args.target = c.wide-total.ensures ∙ c.larger_number.ensures in (
+    let fits = summing_fits (c.loop-i.invariant.2 p.0 p.1) c.loop-i-test.true in (
       omega (arith, fits),
       omega (arith, fits, c.type_inv.nodes c.loop-i.i, c.loop-i.invariant.1),
-      λ f h. rw rows_here (summing_turn (c.loop-i.invariant.2 f h) c.loop-i-test.true),
+      λ f h. rw c.max.ensures (summing_turn (c.loop-i.invariant.2 f h) c.loop-i-test.true),
     )
 
 pub returns : goal.returns

@@ -1,6 +1,6 @@
 -- `rounded_length` rounds by the remainder, which it works out once, and stops at the largest number. Assumes nothing.
 use mathlib.Core.Path.{◌≡◌, ap, ◌∙◌}
-use Prim.Native.Nat.{◌+◌, ◌-◌, ◌%◌, min}
+use Prim.Native.Nat.{min}
 use native.Mathlib.Nat.{mod-lt, pos_of_ne-zero}
 use native.Mathlib.Omega.{arith}
 use Rattle.pad_length.specs.Rounding.{rounded_up, largest_u64}
@@ -24,16 +24,9 @@ returns-then-over-eq0 c =
 pub overflow_sub-missing : goal.overflow_sub-missing
 overflow_sub-missing c = omega (arith, mod-lt c.args.length (pos_of_ne-zero c.if-multiple-eq0.false))
 
-pub returns-then-missing-length : goal.returns-then-missing-length
-returns-then-missing-length c =
+pub returns : goal.returns
+returns c =
     let v = c.args in
     let over = rounded_over v.length v.multiple (pos_of_ne-zero c.if-multiple-eq0.false) c.if-over-eq0.false in
-    let e : v.length + (v.multiple - v.length % v.multiple) ≡ min (rounded_up v.length v.multiple) largest_u64 = omega (arith, c.if-missing-length.true, over) in
-    record { value = e; least = rounded_length (omega arith) e }
-
-pub returns-else-missing-length : goal.returns-else-missing-length
-returns-else-missing-length c =
-    let v = c.args in
-    let over = rounded_over v.length v.multiple (pos_of_ne-zero c.if-multiple-eq0.false) c.if-over-eq0.false in
-    let e : largest_u64 ≡ min (rounded_up v.length v.multiple) largest_u64 = omega (arith, c.if-missing-length.false, over) in
+    let e : c.saturating_add.result ≡ min (rounded_up v.length v.multiple) largest_u64 = omega (arith, c.saturating_add.ensures, over) in
     record { value = e; least = rounded_length (omega arith) e }
