@@ -1,11 +1,12 @@
 -- The outcome by the verdict, and what is written. Assumes nothing.
-use Rattle.std.specs.Prelude.{Ok}
+use Rattle.std.specs.Prelude.{Ok, Err, Result, Option, None, Some}
 use mathlib.Core.Path.{◌≡◌, refl, ap, ap₂, sym, ◌∙◌}
 use mathlib.Core.Bool.{Bool, true, false, cond}
 use Prim.Native.Nat.{ℕ, ◌*◌, ◌/◌, ◌≤◌}
 use native.Mathlib.Nat.{mul-div_cancel, zero-lt-suc}
 use native.Mathlib.Omega.{arith}
 use mathlib.Core.List.{List, map, flat_map}
+use lib.Dec.{eqb}
 use lib.ListN.{length}
 use lib.Seq.{sets}
 use Rattle.record.specs.Tree.{Row, Forest}
@@ -14,6 +15,8 @@ use Rattle.record.specs.Read.{Reading, malformed, holds, read}
 use Rattle.record.specs.Walk.{all_rows}
 use Rattle.record.specs.WellFormed.{Stores, nodes_in, rows_in}
 use Rattle.record.specs.Outcome.{Outcome, refused, in_room, Room, Writes}
+use Rattle.record.specs.Refusals.{number_of}
+use Rattle.record.specs.declared.Refusal.{Refusal}
 use Rattle.record.specs.declared.Refusal.TheVariants.{MalformedRecord, NoRoom, NotText, OffsetPastEnd, OffsetInsideCharacter}
 use Rattle.record.proofs.Flat.{length_nodes, length_rows}
 use Rattle.record.proofs.Outcome.{in_room_lem, no_room, writes_done}
@@ -22,11 +25,9 @@ use Rattle.record.proofs.Walk.{flat_rows_lem}
 use Rattle.chars_text.specs.Characters.{characters}
 use Rattle.offsets_trees.specs.declared.Way.{Way}
 use Rattle.offsets_trees.specs.declared.Fault.{Fault}
-use Rattle.offsets_trees.specs.declared.Fault.TheVariants.{Fine, PastEnd, InsideCharacter}
+use Rattle.offsets_trees.specs.declared.Fault.TheVariants.{PastEnd, InsideCharacter}
 use Rattle.offsets_trees.specs.Offsets.{with_offsets, converted, convert_by, fault_by, batch_fault}
 use Rattle.offsets_trees.proofs.Converted.{converted_rows, converted_nodes, converted_nodes_in, converted_rows_in, converted_well}
-use Rattle.offsets_verdict.specs.declared.Verdict.{Verdict}
-use Rattle.offsets_verdict.specs.declared.Verdict.TheVariants.{Malformed, Accepted, NotText as NoText, PastEnd as Past, InsideCharacter as Inside}
 use Rattle.offsets_verdict.specs.Verdicts.{is_text, of_fault, verdict_of}
 use Rattle.offsets_verdict.proofs.Deciding.{text_both}
 use Rattle.record.proofs.Walk.{rows_stored}
@@ -35,12 +36,9 @@ use Rattle.offsets.specs.Outcomes.{unless_fault, offsets_outcome}
 
 -- ---- By the verdict
 
-abbrev pub by_verdict : Verdict → Outcome → Outcome
-by_verdict Malformed otherwise = refused MalformedRecord
-by_verdict NoText otherwise = refused NotText
-by_verdict Past otherwise = refused OffsetPastEnd
-by_verdict Inside otherwise = refused OffsetInsideCharacter
-by_verdict (Accepted total) otherwise = otherwise
+abbrev pub by_verdict : Result ℕ Refusal → Outcome → Outcome
+by_verdict (Err why) otherwise = refused why
+by_verdict (Ok total) otherwise = otherwise
 
 module _ (way : Way) (text on or : List ℕ) where
   -- what comes after the verdict
@@ -53,14 +51,27 @@ module _ (way : Way) (text on or : List ℕ) where
   outcome_verdict malformed = refl
   outcome_verdict (holds f) = go (is_text text) (batch_fault (fault_by way text) f)
     where
-      go : (t : Bool) (b : Fault) → cond t (unless_fault b (after (holds f))) (refused NotText) ≡ by_verdict (cond t (of_fault b (length (characters text))) NoText) (after (holds f))
-      go true Fine = refl
-      go true PastEnd = refl
-      go true InsideCharacter = refl
+      go : (t : Bool) (b : Option Fault) → cond t (unless_fault b (after (holds f))) (refused NotText) ≡ by_verdict (cond t (of_fault b (length (characters text))) (Err NotText)) (after (holds f))
+      go true None = refl
+      go true (Some PastEnd) = refl
+      go true (Some InsideCharacter) = refl
       go false b = refl
 
-  pub outcome_is : (r : Reading) (v : Verdict) → v ≡ verdict_of way r text → offsets_outcome way r text on or ≡ by_verdict v (after r)
-  outcome_is r v e = outcome_verdict r ∙ ap (λ (w : Verdict). by_verdict w (after r)) (sym e)
+  pub outcome_is : (r : Reading) (v : Result ℕ Refusal) → v ≡ verdict_of way r text → offsets_outcome way r text on or ≡ by_verdict v (after r)
+  outcome_is r v e = outcome_verdict r ∙ ap (λ (w : Result ℕ Refusal). by_verdict w (after r)) (sym e)
+
+-- ---- Turned away
+
+-- not with 6, the one refusal that changes the output
+pub not_six : (way : Way) (r : Reading) (text : List ℕ) {why : Refusal} → Err why ≡ verdict_of way r text → eqb (number_of why) 6 ≡ false
+not_six way malformed text {why} e = let is : why ≡ MalformedRecord = cc in rw is refl
+not_six way (holds f) text {why} e = go (is_text text) (batch_fault (fault_by way text) f) e
+  where
+    go : (t : Bool) (b : Option Fault) → Err why ≡ cond t (of_fault b (length (characters text))) (Err NotText) → eqb (number_of why) 6 ≡ false
+    go true None e = let never : ◌≡◌ {A = ℕ} 0 1 = cc in absurd (omega arith)
+    go true (Some PastEnd) e = let is : why ≡ OffsetPastEnd = cc in rw is refl
+    go true (Some InsideCharacter) e = let is : why ≡ OffsetInsideCharacter = cc in rw is refl
+    go false b e = let is : why ≡ NotText = cc in rw is refl
 
 -- ---- Accepted
 
@@ -69,20 +80,20 @@ pub record Accepts (way : Way) (nodes rows text : List ℕ) (total : ℕ) : Type
   pub f : Forest
   pub reads : read nodes rows ≡ holds f
   pub is_text_lem : is_text text ≡ true
-  pub fine : batch_fault (fault_by way text) f ≡ Fine
+  pub fine : batch_fault (fault_by way text) f ≡ None
   pub all : total ≡ length (characters text)
 
-pub accepts : (way : Way) (nodes rows text : List ℕ) (total : ℕ) → Accepted total ≡ verdict_of way (read nodes rows) text → Accepts way nodes rows text total
+pub accepts : (way : Way) (nodes rows text : List ℕ) (total : ℕ) → Ok total ≡ verdict_of way (read nodes rows) text → Accepts way nodes rows text total
 accepts way nodes rows text total e = by_reading (read nodes rows) refl e
   where
-    by_fault : (f : Forest) → read nodes rows ≡ holds f → (t : Bool) (b : Fault) → is_text text ≡ t → batch_fault (fault_by way text) f ≡ b
-        → Accepted total ≡ cond t (of_fault b (length (characters text))) NoText → Accepts way nodes rows text total
-    by_fault f r true Fine t b e = record { f = f; reads = r; is_text_lem = t; fine = b; all = cc }
-    by_fault f r true PastEnd t b e = let never : ◌≡◌ {A = ℕ} 0 1 = cc in absurd (omega arith)
-    by_fault f r true InsideCharacter t b e = let never : ◌≡◌ {A = ℕ} 0 1 = cc in absurd (omega arith)
+    by_fault : (f : Forest) → read nodes rows ≡ holds f → (t : Bool) (b : Option Fault) → is_text text ≡ t → batch_fault (fault_by way text) f ≡ b
+        → Ok total ≡ cond t (of_fault b (length (characters text))) (Err NotText) → Accepts way nodes rows text total
+    by_fault f r true None t b e = record { f = f; reads = r; is_text_lem = t; fine = b; all = cc }
+    by_fault f r true (Some PastEnd) t b e = let never : ◌≡◌ {A = ℕ} 0 1 = cc in absurd (omega arith)
+    by_fault f r true (Some InsideCharacter) t b e = let never : ◌≡◌ {A = ℕ} 0 1 = cc in absurd (omega arith)
     by_fault f r false b t b' e = let never : ◌≡◌ {A = ℕ} 0 1 = cc in absurd (omega arith)
 
-    by_reading : (r : Reading) → read nodes rows ≡ r → Accepted total ≡ verdict_of way r text → Accepts way nodes rows text total
+    by_reading : (r : Reading) → read nodes rows ≡ r → Ok total ≡ verdict_of way r text → Accepts way nodes rows text total
     by_reading malformed r e = let never : ◌≡◌ {A = ℕ} 0 1 = cc in absurd (omega arith)
     by_reading (holds f) r e = by_fault f r (is_text text) (batch_fault (fault_by way text) f) refl refl e
 
@@ -99,11 +110,9 @@ module _ {way : Way} {nodes rows text : List ℕ} {total : ℕ} (a : Accepts way
   rows_long : length rows ≡ rows_in a.f * row_width
   rows_long = ap length (sym store.rows_are) ∙ length_rows a.f
 
-  pub after_is : (v : Verdict) → v ≡ verdict_of way (read nodes rows) text → v ≡ Accepted total → offsets_outcome way (read nodes rows) text on or ≡ in_room on or result
+  pub after_is : Ok total ≡ verdict_of way (read nodes rows) text → offsets_outcome way (read nodes rows) text on or ≡ in_room on or result
   unfolding result
-  after_is v e is =
-      outcome_is way text on or (read nodes rows) v e
-      ∙ ap₂ (λ (w : Verdict) (r : Reading). by_verdict w (after way text on or r)) is a.reads
+  after_is e = outcome_is way text on or (read nodes rows) (Ok total) e ∙ ap (after way text on or) a.reads
 
   pub convertible : length nodes ≤ length on → length rows ≤ length or → Convertible way nodes rows text total on or
   convertible nodes_fit rows_fit =
@@ -150,7 +159,7 @@ module _ {way : Way} {nodes rows text : List ℕ} {total : ℕ} (a : Accepts way
         ∙ ap (λ (R : List Row). flat_map row_numbers (map (with_offsets (convert_by way text)) R)) (sym (rows_stored nodes rows a.f a.reads))
 
     pub all_written : length nodes ≤ length on → length rows ≤ length or → {on' or' : List ℕ} → on' ≡ sets on 0 nodes → or' ≡ sets or 0 (converted_numbers way text rows)
-        → Writes (offsets_outcome way (read nodes rows) text on or) (Ok (record { nodes = (length nodes / node_width); rows = (length rows / row_width) })) on or on' or'
+        → Writes (offsets_outcome way (read nodes rows) text on or) (Ok (record { nodes = length nodes / node_width; rows = length rows / row_width })) on or on' or'
     unfolding result
     all_written nodes_fit rows_fit n r =
         let g = convert_by way text in
@@ -158,7 +167,7 @@ module _ {way : Way} {nodes rows text : List ℕ} {total : ℕ} (a : Accepts way
         (o ∙ in_room_lem on or result (room_there nodes_fit rows_fit))
         (omega (arith, ap length result_nodes_lem))
         (omega (arith, length_rows result, converted_rows_in g a.f, rows_long))
-        (ap₂ Done
+        (ap₂ (λ (n m : ℕ). Ok (record { nodes = n; rows = m }))
         (ap (λ (k : ℕ). k / node_width) nodes_long ∙ mul-div_cancel (nodes_in a.f) (zero-lt-suc 25) ∙ sym (converted_nodes_in g a.f))
         (ap (λ (k : ℕ). k / row_width) rows_long ∙ mul-div_cancel (rows_in a.f) (zero-lt-suc 10) ∙ sym (converted_rows_in g a.f)))
         (n ∙ ap (sets on 0) (sym result_nodes_lem))

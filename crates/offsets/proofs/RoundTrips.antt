@@ -1,6 +1,7 @@
 -- "Converting there and back gives the batch we began with, and so does back and there, wherever the first step is accepted and the
 -- second has room": what the first operation writes is read by the second as a batch whose outcome is the batch that the first began
 -- with, room alone deciding. Assumes nothing.
+use Rattle.std.specs.Prelude.{Option, None, Some}
 use mathlib.Core.Path.{◌≡◌, refl, ap, sym, ◌∙◌}
 use mathlib.Core.Bool.{Bool, true, false, cond, ◌&&◌}
 use Prim.Native.Nat.{ℕ, ◌*◌}
@@ -17,7 +18,7 @@ use Rattle.record.specs.declared.Refusal.TheVariants.{NoRoom, NotText}
 use Rattle.record.proofs.Read.{stored, reads_back}
 use Rattle.offsets_trees.specs.declared.Way.{Way}
 use Rattle.offsets_trees.specs.declared.Fault.{Fault}
-use Rattle.offsets_trees.specs.declared.Fault.TheVariants.{Fine, PastEnd, InsideCharacter}
+use Rattle.offsets_trees.specs.declared.Fault.TheVariants.{PastEnd, InsideCharacter}
 use Rattle.offsets_trees.specs.Offsets.{converted, convert_by, fault_by, batch_fault, other_way}
 use Rattle.offsets_trees.proofs.Converted.{converted_well}
 use Rattle.offsets_trees.proofs.RoundTrips.{round_trip}
@@ -37,22 +38,22 @@ room_same nodes rows f g e = go (fits_ok f && (leb (nodes_in f * node_width) (le
 -- The first step was accepted.
 record Step (way : Way) (f : Forest) (text : List ℕ) (g : Forest) : Type 0 where
   is_text_lem : is_text text ≡ true
-  fine : batch_fault (fault_by way text) f ≡ Fine
+  fine : batch_fault (fault_by way text) f ≡ None
   is : converted (convert_by way text) f ≡ g
 
 step : (way : Way) (f : Forest) (text nodes rows : List ℕ) (g : Forest) → offsets_outcome way (holds f) text nodes rows ≡ done g → Step way f text g
 unfolding offsets_outcome
 step way f text nodes rows g e = go (is_text text) (batch_fault (fault_by way text) f) refl refl e
   where
-    go : (t : Bool) (b : Fault) → is_text text ≡ t → batch_fault (fault_by way text) f ≡ b
+    go : (t : Bool) (b : Option Fault) → is_text text ≡ t → batch_fault (fault_by way text) f ≡ b
         → cond t (unless_fault b (in_room nodes rows (converted (convert_by way text) f))) (refused NotText) ≡ done g → Step way f text g
-    go true Fine t b e = record { is_text_lem = t; fine = b; is = room_same nodes rows (converted (convert_by way text) f) g e }
-    go true PastEnd t b e = let never : ◌≡◌ {A = ℕ} 0 1 = cc in absurd (omega arith)
-    go true InsideCharacter t b e = let never : ◌≡◌ {A = ℕ} 0 1 = cc in absurd (omega arith)
+    go true None t b e = record { is_text_lem = t; fine = b; is = room_same nodes rows (converted (convert_by way text) f) g e }
+    go true (Some PastEnd) t b e = let never : ◌≡◌ {A = ℕ} 0 1 = cc in absurd (omega arith)
+    go true (Some InsideCharacter) t b e = let never : ◌≡◌ {A = ℕ} 0 1 = cc in absurd (omega arith)
     go false b t b' e = let never : ◌≡◌ {A = ℕ} 0 1 = cc in absurd (omega arith)
 
 -- a batch with nothing wrong: room alone decides
-room_alone : (way : Way) (f : Forest) (text nodes rows : List ℕ) → is_text text ≡ true → batch_fault (fault_by way text) f ≡ Fine
+room_alone : (way : Way) (f : Forest) (text nodes rows : List ℕ) → is_text text ≡ true → batch_fault (fault_by way text) f ≡ None
     → offsets_outcome way (holds f) text nodes rows ≡ in_room nodes rows (converted (convert_by way text) f)
 unfolding offsets_outcome
 room_alone way f text nodes rows t b = rw (t, b)

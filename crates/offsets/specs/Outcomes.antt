@@ -1,20 +1,20 @@
 -- Converting the offsets of a batch (document 02, request 01).
 -- Assumes nothing: these are definitions.
-use Rattle.std.specs.Prelude.{cond, ℕ, List}
+use Rattle.std.specs.Prelude.{cond, ℕ, List, Option, None, Some}
 use Rattle.record.specs.Read.{Reading, malformed, holds}
 use Rattle.record.specs.Outcome.{Outcome, refused, in_room}
 use Rattle.record.specs.declared.Refusal.TheVariants.{MalformedRecord, NotText, OffsetPastEnd, OffsetInsideCharacter}
 use Rattle.offsets_trees.specs.declared.Way.{Way}
 use Rattle.offsets_trees.specs.declared.Fault.{Fault}
-use Rattle.offsets_trees.specs.declared.Fault.TheVariants.{Fine, PastEnd, InsideCharacter}
+use Rattle.offsets_trees.specs.declared.Fault.TheVariants.{PastEnd, InsideCharacter}
 use Rattle.offsets_trees.specs.Offsets.{converted, convert_by, fault_by, batch_fault}
 use Rattle.offsets_verdict.specs.Verdicts.{is_text}
 
 -- refused by the first row concerned, if there is one
-abbrev pub unless_fault : Fault → Outcome → Outcome
-unless_fault Fine otherwise = otherwise
-unless_fault PastEnd otherwise = refused OffsetPastEnd
-unless_fault InsideCharacter otherwise = refused OffsetInsideCharacter
+abbrev pub unless_fault : Option Fault → Outcome → Outcome
+unless_fault None otherwise = otherwise
+unless_fault (Some PastEnd) otherwise = refused OffsetPastEnd
+unless_fault (Some InsideCharacter) otherwise = refused OffsetInsideCharacter
 
 -- "Turned away: after 1, text that is not UTF-8 or is above 4,294,967,295 bytes (16), an offset past the end of the text (17), an offset
 -- inside a character (18, only from bytes to characters), then 2; 17 and 18 by the first row concerned, its start before its end"

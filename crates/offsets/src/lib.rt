@@ -7,7 +7,6 @@ ghost use Rattle.offsets_trees.specs.declared.Way.TheVariants.{ToCharacters, ToB
 ghost use Rattle.offsets.specs.Outcomes.{offsets_outcome};
 
 use offsets_trees::Way;
-use offsets_verdict::Verdict;
 use record::{Encoding, Refusal, Written};
 
 // The batch with both offsets of every row in characters, written to the output. Refused with 1, 16, 17 or 18 by the first row
@@ -59,13 +58,7 @@ fn convert_batch(
         result out_nodes.old out_rows.old
         out_nodes.new out_rows.new }
 {
-    let total = match offsets_verdict::judge(way, nodes, rows, text) {
-        Verdict::Malformed => return Err(Refusal::MalformedRecord),
-        Verdict::NotText => return Err(Refusal::NotText),
-        Verdict::PastEnd => return Err(Refusal::OffsetPastEnd),
-        Verdict::InsideCharacter => return Err(Refusal::OffsetInsideCharacter),
-        Verdict::Accepted(total) => total,
-    };
+    let total = offsets_verdict::judge(way, nodes, rows, text)?;
     if out_nodes.len() < nodes.len() {
         return Err(Refusal::NoRoom);
     }

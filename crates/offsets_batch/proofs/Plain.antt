@@ -1,4 +1,5 @@
 -- In a text of as many characters as bytes every offset stays. Assumes nothing.
+use Rattle.std.specs.Prelude.{None}
 use mathlib.Core.Path.{◌≡◌, refl, ap₂}
 use mathlib.Core.Bool.{true}
 use Prim.Native.Nat.{ℕ}
@@ -9,16 +10,15 @@ use Rattle.chars_text.specs.Characters.{characters, well_formed}
 use Rattle.chars_text.proofs.Plain.{before_same, place_same}
 use Rattle.offsets_trees.specs.declared.Way.{Way}
 use Rattle.offsets_trees.specs.declared.Way.TheVariants.{ToCharacters, ToBytes}
-use Rattle.offsets_trees.specs.declared.Fault.TheVariants.{Fine}
 use Rattle.offsets_trees.specs.Offsets.{placed, with_offsets, convert_by, fault_by, row_fault, rows_fault}
 use Rattle.offsets_trees.proofs.RoundTrips.{earlier_both, byte_fine, char_fine}
 
 module _ (text : List ℕ) (well : well_formed text ≡ true) (plain : length (characters text) ≡ length text) where
-  convert_same : (way : Way) (offset : ℕ) → fault_by way text offset ≡ Fine → convert_by way text offset ≡ offset
+  convert_same : (way : Way) (offset : ℕ) → fault_by way text offset ≡ None → convert_by way text offset ≡ offset
   convert_same ToCharacters offset fine = before_same text well plain offset (byte_fine text offset fine).0
   convert_same ToBytes offset fine = place_same text well plain offset (char_fine text offset fine)
 
-  pub rows_same : (way : Way) (rows : List Row) → rows_fault (fault_by way text) rows ≡ Fine → map (with_offsets (convert_by way text)) rows ≡ rows
+  pub rows_same : (way : Way) (rows : List Row) → rows_fault (fault_by way text) rows ≡ None → map (with_offsets (convert_by way text)) rows ≡ rows
   unfolding rows_fault
   rows_same way [] fine = refl
   rows_same way (r ∷ rows) fine =

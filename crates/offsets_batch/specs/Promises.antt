@@ -1,6 +1,6 @@
 -- What writing a converted batch asks and gives.
 -- Assumes nothing: these are definitions.
-use Rattle.std.specs.Prelude.{◌≡◌, true, ℕ, ◌*◌, ◌/◌, ◌≤◌, length, drop}
+use Rattle.std.specs.Prelude.{◌≡◌, true, ℕ, ◌*◌, ◌/◌, ◌≤◌, length, drop, None}
 use mathlib.Core.List.{List, ◌++◌, map, flat_map}
 use Rattle.record.specs.Tree.{Row}
 use Rattle.record.specs.Flat.{row_width, row_numbers, row_at}
@@ -8,7 +8,6 @@ use Rattle.record.specs.Read.{several}
 use Rattle.chars_text.specs.Characters.{characters, well_formed, starts}
 use Rattle.chars_places.specs.Lengths.{text_largest}
 use Rattle.offsets_trees.specs.declared.Way.{Way}
-use Rattle.offsets_trees.specs.declared.Fault.TheVariants.{Fine}
 use Rattle.offsets_trees.specs.Offsets.{with_offsets, convert_by, fault_by, rows_fault}
 
 -- the numbers of so many rows converted, and what follows them
@@ -25,13 +24,13 @@ pub record Copied (way : Way) (text : List ℕ) (total : ℕ) (rows : List ℕ) 
   pub short : length text ≤ text_largest
   pub all : total ≡ starts text
   pub inside : count * row_width ≤ length rows
-  pub fine : rows_fault (fault_by way text) (several row_at row_width count rows) ≡ Fine
+  pub fine : rows_fault (fault_by way text) (several row_at row_width count rows) ≡ None
 
 -- The rows are whole rows with which nothing is wrong, the text has so many characters, and the output has room.
 pub record Convertible (way : Way) (nodes rows text : List ℕ) (total : ℕ) (out_nodes out_rows : List ℕ) : Type 0 where
   pub list : List Row
   pub are : rows ≡ flat_map row_numbers list
-  pub fine : rows_fault (fault_by way text) list ≡ Fine
+  pub fine : rows_fault (fault_by way text) list ≡ None
   pub well : well_formed text ≡ true
   pub short : length text ≤ text_largest
   pub all : total ≡ length (characters text)

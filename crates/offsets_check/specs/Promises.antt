@@ -1,9 +1,9 @@
 -- What the check of offsets asks and gives.
 -- Assumes nothing: these are definitions.
-use Rattle.std.specs.Prelude.{◌≡◌, Bool, true, false, cond, ℕ, List, leb, length}
+use Rattle.std.specs.Prelude.{◌≡◌, true, cond, ℕ, List, leb, length, Option, None, Some}
 use Rattle.chars_text.specs.Characters.{characters, well_formed}
 use Rattle.offsets_trees.specs.declared.Fault.{Fault}
-use Rattle.offsets_trees.specs.declared.Fault.TheVariants.{Fine, PastEnd, InsideCharacter}
+use Rattle.offsets_trees.specs.declared.Fault.TheVariants.{PastEnd}
 
 -- The text is well-formed and has so many characters.
 pub record CountedText (text : List ℕ) (total : ℕ) : Type 0 where
@@ -11,10 +11,5 @@ pub record CountedText (text : List ℕ) (total : ℕ) : Type 0 where
   pub all : total ≡ length (characters text)
 
 -- the number of a character among so many, that of the end included
-abbrev pub number_fault : ℕ → ℕ → Fault
-number_fault total offset = cond (leb offset total) Fine PastEnd
-
-abbrev pub is_wrong : Fault → Bool
-is_wrong Fine = false
-is_wrong PastEnd = true
-is_wrong InsideCharacter = true
+abbrev pub number_fault : ℕ → ℕ → Option Fault
+number_fault total offset = cond (leb offset total) None (Some PastEnd)

@@ -6,41 +6,39 @@ ghost use Rattle.record.specs.Flat.{row_width, row_at};
 ghost use Rattle.record.specs.Read.{several};
 ghost use Rattle.chars_text.specs.Characters.{well_formed};
 ghost use Rattle.offsets_trees.specs.Offsets.{byte_fault, fault_by, row_fault, rows_fault};
-ghost use Rattle.offsets_check.specs.Promises.{CountedText, number_fault, is_wrong};
+ghost use Rattle.offsets_check.specs.Promises.{CountedText, number_fault};
 
 use offsets_trees::{Fault, Way};
 use record::{Column, Encoding};
 
 // The first fault of so many rows, windows included; in a row the start goes before the end.
-pub fn rows_fault(way: Way, text: &[u8], total: usize, rows: &[u32], count: usize) -> Fault
+pub fn rows_fault(way: Way, text: &[u8], total: usize, rows: &[u32], count: usize) -> Option<Fault>
     requires { CountedText text.now total × (count * row_width ≤ length rows.now) }
     ensures { result ≡ rows_fault (fault_by way text.now) (several row_at row_width count rows.now) }
 {
-    let mut i = 0;
-    while i < count {
+    for i in 0..count {
         let fault = row_fault(way, text, total, rows, i * Encoding::ROW_WIDTH);
-        if wrong(fault) {
+        if fault.is_some() {
             return fault;
         }
-        i += 1;
     }
-    Fault::Fine
+    None
 }
 
 // What is wrong with the row at a place.
-fn row_fault(way: Way, text: &[u8], total: usize, rows: &[u32], at: usize) -> Fault
+fn row_fault(way: Way, text: &[u8], total: usize, rows: &[u32], at: usize) -> Option<Fault>
     requires { CountedText text.now total × (at + row_width ≤ length rows.now) }
     ensures { result ≡ row_fault (fault_by way text.now) (row_at (drop at rows.now)) }
 {
     let start = offset_fault(way, text, total, rows[at + Column::OFFSET_START] as usize);
-    if wrong(start) {
+    if start.is_some() {
         return start;
     }
     offset_fault(way, text, total, rows[at + Column::OFFSET_END] as usize)
 }
 
 // What is wrong with an offset in a text of so many characters.
-fn offset_fault(way: Way, text: &[u8], total: usize, offset: usize) -> Fault
+fn offset_fault(way: Way, text: &[u8], total: usize, offset: usize) -> Option<Fault>
     requires { CountedText text.now total }
     ensures { result ≡ fault_by way text.now offset }
 {
@@ -51,39 +49,28 @@ fn offset_fault(way: Way, text: &[u8], total: usize, offset: usize) -> Fault
 }
 
 // What is wrong with a byte's place. The end of the text has no byte, and nothing is wrong with it.
-fn byte_fault(text: &[u8], offset: usize) -> Fault
+fn byte_fault(text: &[u8], offset: usize) -> Option<Fault>
     requires { well_formed text.now ≡ true }
     ensures { result ≡ byte_fault text.now offset }
 {
     if text.len() < offset {
-        return Fault::PastEnd;
+        return Some(Fault::PastEnd);
     }
     if offset == text.len() {
-        return Fault::Fine;
+        return None;
     }
     if chars_text::is_tail(text[offset]) {
-        return Fault::InsideCharacter;
+        return Some(Fault::InsideCharacter);
     }
-    Fault::Fine
+    None
 }
 
 // What is wrong with the number of a character among so many.
-fn char_fault(total: usize, offset: usize) -> Fault
+fn char_fault(total: usize, offset: usize) -> Option<Fault>
     ensures { result ≡ number_fault total offset }
 {
     if total < offset {
-        return Fault::PastEnd;
+        return Some(Fault::PastEnd);
     }
-    Fault::Fine
-}
-
-// Whether there is something wrong.
-fn wrong(fault: Fault) -> bool
-    ensures { result ≡ is_wrong fault }
-{
-    match fault {
-        Fault::Fine => false,
-        Fault::PastEnd => true,
-        Fault::InsideCharacter => true,
-    }
+    None
 }

@@ -9,10 +9,9 @@ pub enum Way {
     ToBytes,
 }
 
-// What is wrong with an offset, or with the first row of a batch that has a wrong one.
+// What can be wrong with an offset, and so with the first row of a batch that has a wrong one.
 #[derive(Clone, Copy)]
 pub enum Fault {
-    Fine,
     PastEnd,
     InsideCharacter,
 }

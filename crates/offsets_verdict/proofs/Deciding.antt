@@ -1,13 +1,13 @@
 -- The verdict on a batch is that on its rows as they are stored. Assumes nothing.
 use mathlib.Core.Path.{◌≡◌, refl, ap, sym, ◌∙◌}
 use mathlib.Core.Bool.{Bool, true, false, ◌&&◌, false≢true}
-use Prim.Native.Nat.{ℕ, ◌-◌, ◌≤◌, ◌<◌}
+use Prim.Native.Nat.{ℕ, ◌-◌, ◌≤◌}
 use native.Mathlib.Omega.{arith}
 use mathlib.Core.List.{List}
 use lib.Dec.{leb}
 use lib.ListN.{length, take}
 use lib.Seq.{take-length}
-use borrow.Author.Tests.{leb-true, le-leb, lt-leb}
+use borrow.Author.Tests.{leb-true}
 use Rattle.record.specs.Tree.{Row, Forest}
 use Rattle.record.specs.Read.{Reading, malformed, holds, read}
 use Rattle.record.proofs.Walk.{rows_stored}
@@ -17,9 +17,8 @@ use Rattle.chars_places.specs.Lengths.{text_largest}
 use Rattle.offsets_check.specs.Promises.{CountedText}
 use Rattle.offsets_trees.specs.declared.Way.{Way}
 use Rattle.offsets_trees.specs.Offsets.{fault_by, rows_fault, batch_fault}
-use Rattle.record_check.specs.declared.Shape.TheVariants.{Malformed as Shape-as-Malformed, Encodings}
 use Rattle.record_check.specs.Answers.{shape_of}
-use Rattle.offsets_verdict.specs.declared.Verdict.TheVariants.{Malformed, NotText}
+use Rattle.std.specs.Prelude.{Ok}
 use Rattle.offsets_verdict.specs.Verdicts.{is_text, of_fault, verdict_of}
 use Rattle.offsets_verdict.specs.Promises.{rows_verdict}
 
@@ -32,12 +31,6 @@ text_both text e = go (leb (length text) text_largest) refl e
     go true t e = (leb-true (length text) text_largest t, e)
     go false t e = absurd (false≢true e)
 
-pub text_long : (text : List ℕ) → text_largest < length text → false ≡ is_text text
-text_long text h = simp (lt-leb (length text) text_largest h)
-
-pub text_short : (text : List ℕ) → length text ≤ text_largest → well_formed text ≡ is_text text
-text_short text h = simp (le-leb (length text) text_largest h)
-
 pub text_counted : (text : List ℕ) → is_text text ≡ true → (total : ℕ) → total ≡ starts (take (length text - 0) text) → CountedText text total
 text_counted text e total is =
     let whole : length text - 0 ≡ length text = omega arith in
@@ -45,15 +38,11 @@ text_counted text e total is =
 
 -- ---- The batch
 
-pub not_read : (way : Way) (r : Reading) (text : List ℕ) → shape_of r ≡ Shape-as-Malformed → Malformed ≡ verdict_of way r text
-not_read way malformed text e = refl
-not_read way (holds f) text e = let never : ◌≡◌ {A = ℕ} 0 1 = cc in absurd (omega arith)
-
-pub is_read : {n : ℕ} (r : Reading) → shape_of r ≡ Encodings n → (f : Forest) × (r ≡ holds f)
+pub is_read : {n : ℕ} (r : Reading) → shape_of r ≡ Ok n → (f : Forest) × (r ≡ holds f)
 is_read malformed e = let never : ◌≡◌ {A = ℕ} 0 1 = cc in absurd (omega arith)
 is_read (holds f) e = (f, refl)
 
-module _ (way : Way) (nodes rows text : List ℕ) {n : ℕ} (shape : shape_of (read nodes rows) ≡ Encodings n) where
+module _ (way : Way) (nodes rows text : List ℕ) {n : ℕ} (shape : shape_of (read nodes rows) ≡ Ok n) where
   pub verdict_rows : is_text text ≡ true → rows_verdict way rows text ≡ verdict_of way (read nodes rows) text
   verdict_rows text_ok =
       let there = is_read (read nodes rows) shape in
@@ -63,11 +52,3 @@ module _ (way : Way) (nodes rows text : List ℕ) {n : ℕ} (shape : shape_of (r
     where
       accepted : (f : Forest) → of_fault (batch_fault (fault_by way text) f) (length (characters text)) ≡ verdict_of way (holds f) text
       accepted f = rw text_ok
-
-  pub verdict_text : is_text text ≡ false → NotText ≡ verdict_of way (read nodes rows) text
-  verdict_text no_text =
-      let there = is_read (read nodes rows) shape in
-      turned_away there.0 ∙ ap (λ (r : Reading). verdict_of way r text) (sym there.1)
-    where
-      turned_away : (f : Forest) → NotText ≡ verdict_of way (holds f) text
-      turned_away f = rw no_text

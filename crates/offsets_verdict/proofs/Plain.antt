@@ -1,4 +1,5 @@
 -- In a text of as many characters as bytes both ways ask the same of an offset. Assumes nothing.
+use Rattle.std.specs.Prelude.{Option, None, Some}
 use mathlib.Core.Path.{◌≡◌, refl, ap, ap₂, sym, ◌∙◌}
 use mathlib.Core.Bool.{Bool, true, false, cond}
 use Prim.Native.Nat.{ℕ}
@@ -13,22 +14,22 @@ use Rattle.offsets_check.specs.Promises.{CountedText}
 use Rattle.offsets_trees.specs.declared.Way.{Way}
 use Rattle.offsets_trees.specs.declared.Way.TheVariants.{ToCharacters, ToBytes}
 use Rattle.offsets_trees.specs.declared.Fault.{Fault}
-use Rattle.offsets_trees.specs.declared.Fault.TheVariants.{Fine, PastEnd, InsideCharacter}
+use Rattle.offsets_trees.specs.declared.Fault.TheVariants.{PastEnd, InsideCharacter}
 use Rattle.offsets_trees.specs.Offsets.{byte_fault, char_fault, fault_by, earlier, rows_fault}
 use Rattle.offsets_verdict.specs.Promises.{looked_at}
 
 -- what is asked of each offset decides what is wrong with the rows
-rows_alike : (f g : ℕ → Fault) → ((offset : ℕ) → f offset ≡ g offset) → (rows : List Row) → rows_fault f rows ≡ rows_fault g rows
+rows_alike : (f g : ℕ → Option Fault) → ((offset : ℕ) → f offset ≡ g offset) → (rows : List Row) → rows_fault f rows ≡ rows_fault g rows
 unfolding rows_fault
 rows_alike f g alike [] = refl
 rows_alike f g alike (r ∷ rows) = ap₂ earlier (ap₂ earlier (alike r.offset_start) (alike r.offset_end)) (rows_alike f g alike rows)
 
 module _ (text : List ℕ) (well : well_formed text ≡ true) (plain : length (characters text) ≡ length text) where
   fault_same : (offset : ℕ) → char_fault text offset ≡ byte_fault text offset
-  fault_same offset = ap (λ (n : ℕ). cond (leb offset n) Fine PastEnd) plain ∙ go (leb offset (length text)) refl
+  fault_same offset = ap (λ (n : ℕ). cond (leb offset n) None (Some PastEnd)) plain ∙ go (leb offset (length text)) refl
     where
-      go : (t : Bool) → leb offset (length text) ≡ t → cond t Fine PastEnd ≡ cond t (cond (is_start text offset) Fine InsideCharacter) PastEnd
-      go true e = sym (ap (λ (b : Bool). cond b Fine InsideCharacter) (start_same text well plain offset (leb-true offset (length text) e)))
+      go : (t : Bool) → leb offset (length text) ≡ t → cond t None (Some PastEnd) ≡ cond t (cond (is_start text offset) None (Some InsideCharacter)) (Some PastEnd)
+      go true e = sym (ap (λ (b : Bool). cond b None (Some InsideCharacter)) (start_same text well plain offset (leb-true offset (length text) e)))
       go false e = refl
 
   ways_same : (way : Way) (rows : List Row) → rows_fault (fault_by ToBytes text) rows ≡ rows_fault (fault_by way text) rows

@@ -7,40 +7,26 @@ ghost use Rattle.offsets_verdict.specs.Promises.{looked_at, rows_verdict};
 ghost use Rattle.offsets_verdict.specs.Verdicts.{is_text, of_fault, verdict_of};
 
 use offsets_trees::{Fault, Way};
-use record::Encoding;
-use record_check::Shape;
+use record::{Encoding, Refusal};
 
 // The longest text: an offset is a number of 32 bits.
 const MOST_BYTES: usize = 4_294_967_295;
-
-// Why a batch cannot be converted; or that it can, with the number of the text's characters.
-#[derive(Clone, Copy)]
-pub enum Verdict {
-    Malformed,
-    NotText,
-    PastEnd,
-    InsideCharacter,
-    Accepted(usize),
-}
 
 // Whether a text is UTF-8 and not too long.
 fn is_text(text: &[u8]) -> bool
     ensures { result ≡ is_text text.now }
 {
-    if MOST_BYTES < text.len() {
-        return false;
-    }
-    chars_check::well_formed(text)
+    text.len() <= MOST_BYTES && chars_check::well_formed(text)
 }
 
-// A fault, or the number of characters if there is none.
-fn told(fault: Fault, total: usize) -> Verdict
+// The number of characters, refused with 17 or 18 where there is a fault.
+fn told(fault: Option<Fault>, total: usize) -> Result<usize, Refusal>
     ensures { result ≡ of_fault fault total }
 {
     match fault {
-        Fault::Fine => Verdict::Accepted(total),
-        Fault::PastEnd => Verdict::PastEnd,
-        Fault::InsideCharacter => Verdict::InsideCharacter,
+        None => Ok(total),
+        Some(Fault::PastEnd) => Err(Refusal::OffsetPastEnd),
+        Some(Fault::InsideCharacter) => Err(Refusal::OffsetInsideCharacter),
     }
 }
 
@@ -49,14 +35,11 @@ fn told(fault: Fault, total: usize) -> Verdict
 fn looked_at(way: Way, bytes: usize, total: usize) -> Way
     ensures { result ≡ looked_at way bytes total }
 {
-    if total == bytes {
-        return Way::ToBytes;
-    }
-    way
+    if total == bytes { Way::ToBytes } else { way }
 }
 
-// What is wrong with the rows of a batch, if anything is.
-fn rows_verdict(way: Way, rows: &[u32], text: &[u8]) -> Verdict
+// What is wrong with the rows of a batch, if anything is; else the number of characters.
+fn rows_verdict(way: Way, rows: &[u32], text: &[u8]) -> Result<usize, Refusal>
     requires { is_text text.now ≡ true }
     ensures { result ≡ rows_verdict way rows.now text.now }
 {
@@ -69,16 +52,13 @@ fn rows_verdict(way: Way, rows: &[u32], text: &[u8]) -> Verdict
     )
 }
 
-// Whether the offsets of a batch can be converted.
-pub fn judge(way: Way, nodes: &[u32], rows: &[u32], text: &[u8]) -> Verdict
+// Why the offsets of a batch cannot be converted; or, if they can, the number of the text's characters.
+pub fn judge(way: Way, nodes: &[u32], rows: &[u32], text: &[u8]) -> Result<usize, Refusal>
     ensures { result ≡ verdict_of way (read nodes.now rows.now) text.now }
 {
-    let shape = record_check::check_batch(nodes, rows);
-    if let Shape::Malformed = shape {
-        return Verdict::Malformed;
+    record_check::check_batch(nodes, rows)?;
+    if !is_text(text) {
+        return Err(Refusal::NotText);
     }
-    if is_text(text) {
-        return rows_verdict(way, rows, text);
-    }
-    Verdict::NotText
+    rows_verdict(way, rows, text)
 }

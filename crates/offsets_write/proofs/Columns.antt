@@ -1,4 +1,5 @@
 -- The offsets of a row converted where they stand, one after the other. Assumes nothing.
+use Rattle.std.specs.Prelude.{Option, None}
 use mathlib.Core.Path.{◌≡◌, refl, ap, ap₂, sym, ◌∙◌}
 use Prim.Native.Nat.{ℕ, zero, suc, ◌+◌, ◌≤◌, ◌<◌}
 use native.Mathlib.Numerals.{add-one}
@@ -8,17 +9,16 @@ use lib.ListN.{length, get_or, set, drop, length-set}
 use lib.Seq.{get_or-drop, get_or-set_other}
 use Rattle.record.specs.Flat.{row_at}
 use Rattle.offsets_trees.specs.declared.Fault.{Fault}
-use Rattle.offsets_trees.specs.declared.Fault.TheVariants.{Fine}
 use Rattle.offsets_trees.specs.Offsets.{row_fault}
 use Rattle.offsets_trees.proofs.RoundTrips.{earlier_both}
 use Rattle.offsets_write.specs.Promises.{row_converted}
 
-module _ (fault : ℕ → Fault) (rows : List ℕ) (at : ℕ) (fine : row_fault fault (row_at (drop at rows)) ≡ Fine) where
-  both : (fault (get_or (drop at rows) 7 0) ≡ Fine) × (fault (get_or (drop at rows) 8 0) ≡ Fine)
+module _ (fault : ℕ → Option Fault) (rows : List ℕ) (at : ℕ) (fine : row_fault fault (row_at (drop at rows)) ≡ None) where
+  both : (fault (get_or (drop at rows) 7 0) ≡ None) × (fault (get_or (drop at rows) 8 0) ≡ None)
   unfolding row_at
   both = earlier_both (fault (get_or (drop at rows) 7 0)) (fault (get_or (drop at rows) 8 0)) fine
 
-  pub column_fine : (n : ℕ) → n < 2 → fault (get_or rows (at + 7 + n) 0) ≡ Fine
+  pub column_fine : (n : ℕ) → n < 2 → fault (get_or rows (at + 7 + n) 0) ≡ None
   column_fine zero h =
       let there : at + 7 + 0 ≡ at + 7 = omega arith in
       ap (λ (n : ℕ). fault (get_or rows n 0)) there ∙ ap fault (sym (get_or-drop at rows 7 0)) ∙ both.0

@@ -1,4 +1,5 @@
 -- One row after another converted. Assumes nothing.
+use Rattle.std.specs.Prelude.{Option, None}
 use mathlib.Core.Path.{◌≡◌, refl, ap, ap₂, sym, ◌∙◌}
 use Prim.Native.Nat.{ℕ, zero, suc, ◌+◌, ◌*◌, ◌≤◌, ◌<◌}
 use native.Mathlib.Nat.{zero-mul}
@@ -15,7 +16,6 @@ use Rattle.record.specs.Read.{several}
 use Rattle.record.proofs.Flat.{length_numbers, row_stored}
 use Rattle.record.proofs.Several.{length_several, several_more}
 use Rattle.offsets_trees.specs.declared.Fault.{Fault}
-use Rattle.offsets_trees.specs.declared.Fault.TheVariants.{Fine}
 use Rattle.offsets_trees.specs.Offsets.{with_offsets, row_fault, rows_fault}
 use Rattle.offsets_trees.proofs.RoundTrips.{earlier_both}
 use Rattle.offsets_write.specs.Promises.{row_converted}
@@ -32,8 +32,8 @@ module _ (convert : ℕ → ℕ) (before : List ℕ) (r : Row) (after : List ℕ
       ∙ sets_right before (set numbers 7 (convert r.offset_start)) 8 (convert r.offset_end ∷ [])
 
 -- each of the rows has no fault
-pub row_fine : (fault : ℕ → Fault) (count : ℕ) (rows : List ℕ) (i : ℕ) → rows_fault fault (several row_at row_width count rows) ≡ Fine → i < count
-    → row_fault fault (row_at (drop (i * row_width) rows)) ≡ Fine
+pub row_fine : (fault : ℕ → Option Fault) (count : ℕ) (rows : List ℕ) (i : ℕ) → rows_fault fault (several row_at row_width count rows) ≡ None → i < count
+    → row_fault fault (row_at (drop (i * row_width) rows)) ≡ None
 unfolding rows_fault several
 row_fine fault zero rows i fine h = absurd (omega arith)
 row_fine fault (suc count) rows zero fine h =

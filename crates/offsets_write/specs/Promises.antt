@@ -1,6 +1,6 @@
 -- What converting offsets asks and gives.
 -- Assumes nothing: these are definitions.
-use Rattle.std.specs.Prelude.{◌≡◌, true, ℕ, ◌+◌, ◌*◌, ◌≤◌, List, length, get_or, set, drop}
+use Rattle.std.specs.Prelude.{◌≡◌, true, ℕ, ◌+◌, ◌*◌, ◌≤◌, List, length, get_or, set, drop, None}
 use Rattle.record.specs.Flat.{row_width, row_at}
 use Rattle.record.specs.Read.{several}
 use Rattle.chars_text.specs.Characters.{well_formed}
@@ -12,7 +12,6 @@ use Rattle.chars_stretch.specs.declared.Stretch.{Stretch}
 use Rattle.chars_stretch.specs.Promises.{CharsStretched, PlacesStretched}
 use Rattle.offsets_trees.specs.declared.Way.{Way}
 use Rattle.offsets_trees.specs.declared.Way.TheVariants.{ToCharacters, ToBytes}
-use Rattle.offsets_trees.specs.declared.Fault.TheVariants.{Fine}
 use Rattle.offsets_trees.specs.Offsets.{fault_by, row_fault, rows_fault}
 
 -- which table each way needs
@@ -29,7 +28,7 @@ pub record TableReady (way : Way) (text table : List ℕ) (grain : Grain) : Type
 -- Nothing is wrong with the offset.
 pub record Accepted (text table : List ℕ) (grain : Grain) (way : Way) (offset : ℕ) : Type 0 where
   pub ready : TableReady way text table grain
-  pub fine : fault_by way text offset ≡ Fine
+  pub fine : fault_by way text offset ≡ None
 
 -- what a stretch of offsets is, by the way
 abbrev pub StretchedBy : Way → List ℕ → Stretch → Type 0
@@ -40,13 +39,13 @@ StretchedBy ToBytes text stretch = PlacesStretched text stretch
 pub record RowAccepted (text table : List ℕ) (grain : Grain) (way : Way) (rows : List ℕ) (at : ℕ) : Type 0 where
   pub ready : TableReady way text table grain
   pub inside : at + row_width ≤ length rows
-  pub fine : row_fault (fault_by way text) (row_at (drop at rows)) ≡ Fine
+  pub fine : row_fault (fault_by way text) (row_at (drop at rows)) ≡ None
 
 -- Nothing is wrong with so many rows.
 pub record RowsAccepted (text table : List ℕ) (grain : Grain) (way : Way) (rows : List ℕ) (count : ℕ) : Type 0 where
   pub ready : TableReady way text table grain
   pub inside : count * row_width ≤ length rows
-  pub fine : rows_fault (fault_by way text) (several row_at row_width count rows) ≡ Fine
+  pub fine : rows_fault (fault_by way text) (several row_at row_width count rows) ≡ None
 
 -- the rows with the offsets of the one at a place converted
 abbrev pub row_converted : (ℕ → ℕ) → List ℕ → ℕ → List ℕ

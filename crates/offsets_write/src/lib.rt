@@ -48,10 +48,8 @@ fn stretch_with(
     requires { Accepted text.now table.now grain way offset × StretchedBy way text.now last }
     ensures { StretchedBy way text.now result × Holds result offset }
 {
-    if last.from <= offset {
-        if offset <= last.to {
-            return last;
-        }
+    if last.from <= offset && offset <= last.to {
+        return last;
     }
     stretch_from(way, text, grain, table, last, offset)
 }
@@ -79,13 +77,11 @@ fn convert_row(
     ensures stretch { StretchedBy way text.now result }
 {
     let mut stretch = last;
-    let mut column = 0;
-    while column < OFFSETS {
+    for column in 0..OFFSETS {
         let place = at + Column::OFFSET_START + column;
         let offset = rows[place] as usize;
         stretch = stretch_with(way, text, grain, table, stretch, offset);
         rows[place] = value(stretch, offset);
-        column += 1;
     }
     stretch
 }
@@ -109,9 +105,7 @@ pub fn convert_rows(
         to: 0,
         base: 0,
     };
-    let mut i = 0;
-    while i < count {
+    for i in 0..count {
         last = convert_row(way, text, grain, table, last, rows, i * Encoding::ROW_WIDTH);
-        i += 1;
     }
 }

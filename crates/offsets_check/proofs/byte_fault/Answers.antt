@@ -1,11 +1,8 @@
--- `byte_fault` meets its contract: past the end, at the end, at a tail, at a character. Assumes nothing.
+-- `byte_fault` meets its contract: at the end, at a tail, at a character. Assumes nothing.
 use mathlib.Core.Path.{sym, ◌∙◌}
-use Rattle.offsets_check.proofs.Faults.{byte_past, byte_end, byte_inside, byte_start}
+use Rattle.offsets_check.proofs.Faults.{byte_end, byte_inside, byte_start}
 use native.Mathlib.Omega.{arith}
 use Rattle.offsets_check.proofs.byte_fault.Goals as goal
-
-pub returns-then-text-offset : goal.returns-then-text-offset
-returns-then-text-offset c = byte_past c.args.text.now c.args.offset c.if-text-offset.true
 
 pub returns-then-offset-text : goal.returns-then-offset-text
 returns-then-offset-text c = byte_end c.args.text.now c.args.offset c.requires c.if-offset-text.true

@@ -10,13 +10,13 @@ loop-i-init c = checking_start _ _ _
 pub row_fault-fault-requires : goal.row_fault-fault-requires
 row_fault-fault-requires c = (c.requires.0, omega arith)
 
-pub returns-then-wrong : goal.returns-then-wrong
-returns-then-wrong c =
-    checking_found c.loop-i.invariant _ c.loop-i-test.true c.row_fault-fault.ensures (sym c.wrong.ensures ∙ c.if-wrong.true)
+pub returns-then-is_some : goal.returns-then-is_some
+returns-then-is_some c =
+    checking_found c.loop-i.invariant _ c.loop-i-test.true c.row_fault-fault.ensures (sym c.is_some.ensures ∙ c.if-is_some.true)
 
 pub loop-i-preserved : goal.loop-i-preserved
 loop-i-preserved c =
-    checking_next c.loop-i.invariant _ c.loop-i-test.true c.row_fault-fault.ensures (sym c.wrong.ensures ∙ c.if-wrong.false)
+    checking_next c.loop-i.invariant _ c.loop-i-test.true c.row_fault-fault.ensures (sym c.is_some.ensures ∙ c.if-is_some.false)
 
 pub returns : goal.returns
 returns c = checking_end c.loop-i.invariant c.loop-i-test.false

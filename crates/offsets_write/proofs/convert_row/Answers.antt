@@ -23,7 +23,7 @@ stretch_with-stretch-requires c =
       record {
         ready = c.requires.0.ready;
         fine =
-            ap fault (c.wide-offset.ensures ∙ columns_there _ _ _ inv.0 few)
+            ap fault (columns_there _ _ _ inv.0 few)
             ∙ column_fine fault c.args.rows.now c.args.at c.requires.0.fine _ few;
       },
       inv.1,
@@ -39,10 +39,9 @@ bounds-rows-place-in-loop-column c = omega (arith, columns_length _ _ _ c.loop-c
 
 pub loop-column-preserved : goal.loop-column-preserved
 loop-column-preserved c =
-    let found = c.stretch_with-stretch.ensures in
-    let convert = convert_by c.args.way c.args.text.now in (
+    let found = c.stretch_with-stretch.ensures in (
       columns_next _ _ _ c.loop-column.invariant.0 _ (omega (arith, c.loop-column-test.true))
-          (c.value.ensures ∙ becomes c.args.text.now c.requires.0.ready.well _ found.1 c.args.way found.0 ∙ ap convert c.wide-offset.ensures),
+          (c.value.ensures ∙ becomes c.args.text.now c.requires.0.ready.well _ found.1 c.args.way found.0),
       found.0,
     )
 

@@ -8,6 +8,3 @@ use Rattle.offsets_write.proofs.convert_row.Given as goal
 
 abbrev pub invariant-loop-column : goal.invariant-loop-column
 invariant-loop-column l = Columns (convert_by l.way l.text) l.initial.rows l.at l.column l.rows × StretchedBy l.way l.text l.stretch
-
-abbrev pub decreases-loop-column : goal.decreases-loop-column
-decreases-loop-column l = 2 - l.column

@@ -8,6 +8,3 @@ use Rattle.offsets_write.proofs.convert_rows.Given as goal
 
 abbrev pub invariant-loop-i : goal.invariant-loop-i
 invariant-loop-i l = Turning (convert_by l.way l.text) l.initial.rows l.count l.i l.rows × StretchedBy l.way l.text l.last
-
-abbrev pub decreases-loop-i : goal.decreases-loop-i
-decreases-loop-i l = l.count - l.i

@@ -1,8 +1,8 @@
 -- `stretch_from` meets its contract, by the way that offsets are converted. Assumes nothing.
+use Rattle.std.specs.Prelude.{None}
 use mathlib.Core.Path.{◌≡◌, ap, sym, ◌∙◌}
 use Rattle.chars_text.proofs.Texts.{characters_starts}
 use Rattle.offsets_trees.specs.declared.Way.{Way}
-use Rattle.offsets_trees.specs.declared.Fault.TheVariants.{Fine}
 use Rattle.offsets_trees.specs.Offsets.{byte_fault, char_fault, fault_by}
 use Rattle.offsets_trees.proofs.RoundTrips.{byte_fine, char_fine}
 use native.Mathlib.Omega.{arith}
@@ -20,12 +20,12 @@ abbrev In-ToCharacters : Type 0
 In-ToCharacters = Lts.Past-After-enum_told tie.the-claims Reads.Pre Reads.Post
 
 -- nothing is wrong with the offset, towards characters and towards bytes
-fine_place : (c : In-ToCharacters) → byte_fault c.args.text.now c.args.offset ≡ Fine
+fine_place : (c : In-ToCharacters) → byte_fault c.args.text.now c.args.offset ≡ None
 fine_place c =
     let s = c.before.before in
     ap (λ (way : Way). fault_by way s.args.text.now s.args.offset) (sym c.in-ToCharacters.is) ∙ s.requires.0.fine
 
-fine_character : (c : In-ToBytes) → char_fault c.args.text.now c.args.offset ≡ Fine
+fine_character : (c : In-ToBytes) → char_fault c.args.text.now c.args.offset ≡ None
 fine_character c =
     let s = c.before.before in
     ap (λ (way : Way). fault_by way s.args.text.now s.args.offset) (sym c.in-ToBytes.is) ∙ s.requires.0.fine
