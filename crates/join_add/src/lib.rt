@@ -27,6 +27,7 @@ fn add_whole(src: &[u32], more: &[u32], dst: &mut [u32])
     ensures { dst.new ≡ sums src.now more.now }
 {
     let mut i: usize = 0;
+    // A while: what is left decides, and after it the rest begins at i.
     while src.len() - i >= 4 {
         add_four(src, more, dst, i);
         i += 4;
@@ -62,10 +63,8 @@ fn add_rest(src: &[u32], more: &[u32], dst: &mut [u32], i: usize)
     requires { (AskAdd src.now more.now dst.old) × (i ≤ length src.now) }
     ensures { AddsRest src.now more.now dst.old i dst.new }
 {
-    let mut k = i;
-    while k < src.len() {
+    for k in i..src.len() {
         dst[k] = sum_at(src, more, k);
-        k += 1;
     }
 }
 

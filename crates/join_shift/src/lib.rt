@@ -35,6 +35,7 @@ pub fn copy_shifted(rows: &[u32], j: usize, count: usize, n: u32, out_rows: &mut
     }
     let shifts = block_of_shifts(n);
     let mut i: usize = 0;
+    // A while: what is left decides, and after it the rest begins at i.
     while size - i >= BLOCK {
         join_add::add_at(rows, j + i, BLOCK, &shifts, out_rows, at + i);
         i += BLOCK;

@@ -1,5 +1,5 @@
 -- `add_whole` leaves the sums in dst: after its turns the first i of them, and then the rest. Assumes nothing.
-use Prim.Native.Nat.{ℕ, ◌-◌}
+use Prim.Native.Nat.{ℕ}
 use mathlib.Core.Path.{refl, sym, ap, ◌∙◌}
 use mathlib.Core.List.{List}
 use lib.ListN.{length, length-set}

@@ -1,40 +1,25 @@
 -- `copy_shifted` writes the rows four at a time, and then those that are left. Assumes nothing.
 use mathlib.Core.Path.{refl, ap, ◌∙◌}
-use Prim.Native.Nat.{ℕ, ◌*◌, ◌-◌}
+use Prim.Native.Nat.{◌*◌, ◌-◌}
 use native.Mathlib.Omega.{arith}
-use lib.ListN.{length, get_or}
+use lib.ListN.{length}
 use lib.Seq.{length-sets}
 use Rattle.record.specs.Flat.{row_width}
-use Rattle.join_shift.proofs.Shifts.{Small, copied}
+use Rattle.join_shift.proofs.Shifts.{copied}
 use Rattle.join_shift.proofs.Blocks.{part_start, four_left, few_left, rest_left, block_asked, part_on, part_end}
 use Rattle.join_shift.proofs.copy_shifted.Goals as goal
-use Rattle.join_shift.proofs.copy_shifted.Lts as Lts
-use Rattle.join_shift.proofs.copy_shifted.Reads as Reads
-use Rattle.join_shift.proofs.copy_shifted.Tie as tie
-
--- ---- Places in the code
-
-abbrev At-loop-i : Type 0
-At-loop-i = Lts.At-loop tie.the-claims Reads.Pre Reads.Post goal.the-invariant-loop-i goal.the-decreases-loop-i
-
-small : (l : At-loop-i) (k : ℕ) → Small (get_or l.args.rows.now k 0)
-small l k = omega (arith, l.shared_slice_known-1.given k)
 
 pub returns-then-n-eq0 : goal.returns-then-n-eq0
 returns-then-n-eq0 c = copied c.if-n-eq0.true c.copy.ensures
-
-pub block_of_shifts-shifts-requires : goal.block_of_shifts-shifts-requires
-block_of_shifts-shifts-requires c = tt
 
 pub loop-i-init : goal.loop-i-init
 loop-i-init c = (refl, omega arith, λ R h k. part_start _ R _ _)
 
 pub add_at-requires : goal.add_at-requires
 add_at-requires c =
-    let l = c.before.before.before.before in
-    let a = l.requires in
-    let p = l.loop-i.invariant.2 a.R a.there a.size in
-    block_asked a.there p 4 (omega arith) (four_left a.there p (omega (arith, a.size))) l.block_of_shifts-shifts.ensures refl a.within (small l) (omega arith) (omega arith)
+    let a = c.requires in
+    let p = c.loop-i.invariant.2 a.R a.there a.size in
+    block_asked a.there p 4 (omega arith) (four_left a.there p (omega (arith, a.size))) c.block_of_shifts-shifts.ensures refl a.within (λ k. omega (arith, c.type_inv.rows k)) (omega arith) (omega arith)
 
 pub loop-i-preserved : goal.loop-i-preserved
 loop-i-preserved c =
@@ -48,10 +33,9 @@ loop-i-preserved c =
 
 pub add_few_at-requires : goal.add_few_at-requires
 add_few_at-requires c =
-    let l = c.before.before.before.before in
-    let a = l.requires in
-    let p = l.loop-i.invariant.2 a.R a.there a.size in
-    block_asked a.there p (length p.B) (few_left a.there p (omega (arith, a.size))) (omega arith) l.block_of_shifts-shifts.ensures (rest_left a.there p (omega (arith, a.size))) a.within (small l) (omega arith) (omega arith)
+    let a = c.requires in
+    let p = c.loop-i.invariant.2 a.R a.there a.size in
+    block_asked a.there p (length p.B) (few_left a.there p (omega (arith, a.size))) (omega arith) c.block_of_shifts-shifts.ensures (rest_left a.there p (omega (arith, a.size))) a.within (λ k. omega (arith, c.type_inv.rows k)) (omega arith) (omega arith)
 
 pub returns : goal.returns
 returns c =
