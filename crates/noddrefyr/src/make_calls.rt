@@ -2,13 +2,14 @@
 ghost use Rattle.std.specs.Prelude.{◌≡◌};
 ghost use Rattle.c_crossing.specs.Crossing.{WritesOut};
 ghost use Rattle.record.specs.Read.{read};
-ghost use Rattle.record_check.specs.Answers.{shape_of, encodings_or, shape_refusal};
+ghost use Rattle.record.specs.Outcome.{refusal_of};
+ghost use Rattle.record_check.specs.Answers.{shape_of, encodings_or};
 ghost use Rattle.record_make.specs.Making.{from_tokens, set_sequence_id};
 
 // Whether two slices are a well-formed batch (else 1), and the number of its encodings at the top.
 #[unsafe(no_mangle)]
 pub extern "C" fn noddrefyr_check_batch(nodes: &[u32], rows: &[u32], encodings: &mut usize) -> u32
-    ensures refusal { result ≡ shape_refusal (shape_of (read nodes.now rows.now)) }
+    ensures refusal { result ≡ refusal_of (shape_of (read nodes.now rows.now)) }
     ensures values { encodings.new ≡
         encodings_or encodings.old (shape_of (read nodes.now rows.now)) }
 {
