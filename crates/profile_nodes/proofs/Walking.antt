@@ -3,7 +3,7 @@
 use mathlib.Core.Path.{◌≡◌, refl, sym, ap, ◌∙◌}
 use mathlib.Core.Bool.{Bool, true, false, cond}
 use mathlib.Core.Option.{Option, none as nothing, some}
-use Prim.Native.Nat.{ℕ, suc, ◌+◌, ◌-◌, ◌*◌, ◌≤◌, ◌<◌, max}
+use Prim.Native.Nat.{ℕ, suc, ◌+◌, ◌-◌, ◌*◌, ◌/◌, ◌≤◌, ◌<◌, max}
 use native.Mathlib.Numerals.{add-one}
 use native.Mathlib.Omega.{arith}
 use mathlib.Core.List.{List, ◌∷◌, ◌++◌}
@@ -112,14 +112,14 @@ module _ {nodes rows : List ℕ} {i j number left : ℕ} {best : Break} (k : Wal
   same f s = ap (λ (g : Forest). held (first_broken g)) (unique nodes rows k.f f k.stores s)
 
   -- no node is to come
-  pub walking_end : length nodes ≤ i → FirstFound nodes rows best
+  pub walking_end : length nodes / node_width ≤ number → FirstFound nodes rows best
   unfolding batch_nodes node_rows first_break first_row
   walking_end past f s = go k.windows k.after k.nodes_come k.rest
     where
       go : (windows after : Forest) → NodesToCome nodes i (followed windows after) → first_broken k.f ≡ better k.before (first_break rules (node_rows number (batch_nodes true windows ++ batch_nodes false after))) → best ≡ held (first_broken f)
       go none none h e = k.best_is ∙ ap held (sym (e ∙ better_nothing k.before)) ∙ same f s
-      go none (node r q w x) h e = absurd (omega (arith, coming_fits h))
-      go (node r q w x) after h e = absurd (omega (arith, coming_fits h))
+      go none (node r q w x) h e = absurd (omega (arith, coming_fits h, k.counted))
+      go (node r q w x) after h e = absurd (omega (arith, coming_fits h, k.counted))
 
   module _ (inside : i < length nodes) where
     -- one is

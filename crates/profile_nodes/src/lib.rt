@@ -16,10 +16,10 @@ pub fn first_break(nodes: &[u32], rows: &[u32]) -> Break
 {
     let mut best = Break::none();
     let mut left: u32 = 0;
-    let mut node: u32 = 0;
-    let mut i: usize = 0;
     let mut j: usize = 0;
-    while i < nodes.len() {
+    for n in 0..nodes.len() / Encoding::NODE_WIDTH {
+        let node = n as u32;
+        let i = n * Encoding::NODE_WIDTH;
         let windows = nodes[i + 1];
         if left > 0 {
             if windows > 0 {
@@ -33,8 +33,6 @@ pub fn first_break(nodes: &[u32], rows: &[u32]) -> Break
         best = profile_node::check_node(nodes, i, rows, j, node, best);
         left = left_after(left, windows);
         j += nodes[i] as usize * Encoding::ROW_WIDTH;
-        i += Encoding::NODE_WIDTH;
-        node += 1;
     }
     best
 }

@@ -1,12 +1,9 @@
 -- `first_break` meets its contract. The loop's invariant, `Walking`: what the nodes passed break, and that with it what is to come decides.
 -- Assumes nothing.
-use Prim.Native.Nat.{◌-◌}
-use lib.ListN.{length}
+use Prim.Native.Nat.{◌*◌}
+use Rattle.record.specs.Flat.{node_width}
 use Rattle.profile_nodes.proofs.Walking.{Walking}
 use Rattle.profile_nodes.proofs.first_break.Given as goal
 
-abbrev pub invariant-loop-i : goal.invariant-loop-i
-invariant-loop-i l = Walking l.nodes l.rows l.i l.j l.node l.left l.best
-
-abbrev pub decreases-loop-i : goal.decreases-loop-i
-decreases-loop-i l = length l.nodes - l.i
+abbrev pub invariant-loop-n : goal.invariant-loop-n
+invariant-loop-n l = Walking l.nodes l.rows (l.n * node_width) l.j l.n l.left l.best
