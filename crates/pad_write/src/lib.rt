@@ -28,6 +28,7 @@ pub fn write_padded(
     let mut i: usize = 0;
     let mut from: usize = 0;
     let mut to: usize = 0;
+    // A while: where the next rows stand, the nodes say.
     while i < nodes.len() {
         let size = nodes[i];
         let count = size.max(target);

@@ -11,14 +11,14 @@ pub loop-i-init : goal.loop-i-init
 loop-i-init c = λ f h. growing_start _ _ _ _ _ h
 
 pub overflow_sub-new : goal.overflow_sub-new
-overflow_sub-new c = omega (arith, c.larger_number-count.ensures)
+overflow_sub-new c = omega (arith, c.max-count.ensures)
 
 pub write_node-requires : goal.write_node-requires
 write_node-requires c =
     let p = c.requires in
     let grown = c.loop-i.invariant p.f p.stores in
     let turn = growing_turn _ _ _ grown c.loop-i-test.true p.nodes_fit p.few_rows p.rows_fit in
-    rw c.larger_number-count.ensures turn.asks
+    rw c.max-count.ensures turn.asks
 
 pub write_rows-requires : goal.write_rows-requires
 write_rows-requires c =
@@ -26,7 +26,7 @@ write_rows-requires c =
     let grown = c.loop-i.invariant p.f p.stores in
     let turn = growing_turn _ _ _ grown c.loop-i-test.true p.nodes_fit p.few_rows p.rows_fit in
     let k = growing_kept_rows _ _ _ grown in
-    let e = c.larger_number-count.ensures in
+    let e = c.max-count.ensures in
     (turn.rows_stand, omega (arith, turn.rows_fit))
 
 pub overflow_add-i : goal.overflow_add-i
@@ -41,32 +41,32 @@ overflow_mul-from c =
     let p = c.requires in
     let grown = c.loop-i.invariant p.f p.stores in
     let turn = growing_turn _ _ _ grown c.loop-i-test.true p.nodes_fit p.few_rows p.rows_fit in
-    omega (arith, c.wide.ensures, turn.rows_stand)
+    omega (arith, turn.rows_stand)
 
 pub overflow_add-from : goal.overflow_add-from
 overflow_add-from c =
     let p = c.requires in
     let grown = c.loop-i.invariant p.f p.stores in
     let turn = growing_turn _ _ _ grown c.loop-i-test.true p.nodes_fit p.few_rows p.rows_fit in
-    omega (arith, c.wide.ensures, turn.rows_stand)
+    omega (arith, turn.rows_stand)
 
 pub overflow_mul-to : goal.overflow_mul-to
 overflow_mul-to c =
     let p = c.requires in
     let grown = c.loop-i.invariant p.f p.stores in
     let turn = growing_turn _ _ _ grown c.loop-i-test.true p.nodes_fit p.few_rows p.rows_fit in
-    omega (arith, c.wide-in-loop-i.ensures, c.larger_number-count.ensures, turn.rows_fit)
+    omega (arith, c.max-count.ensures, turn.rows_fit)
 
 pub overflow_add-to : goal.overflow_add-to
 overflow_add-to c =
     let p = c.requires in
     let grown = c.loop-i.invariant p.f p.stores in
     let turn = growing_turn _ _ _ grown c.loop-i-test.true p.nodes_fit p.few_rows p.rows_fit in
-    omega (arith, c.wide-in-loop-i.ensures, c.larger_number-count.ensures, turn.rows_fit)
+    omega (arith, c.max-count.ensures, turn.rows_fit)
 
 pub loop-i-preserved : goal.loop-i-preserved
 loop-i-preserved c = λ f h.
-    rw (c.wide.ensures, c.wide-in-loop-i.ensures) (growing_on _ _ _ (c.loop-i.invariant f h) c.loop-i-test.true refl c.larger_number-count.ensures refl c.write_node.ensures c.write_rows.ensures)
+    growing_on _ _ _ (c.loop-i.invariant f h) c.loop-i-test.true refl c.max-count.ensures refl c.write_node.ensures c.write_rows.ensures
 
 pub returns : goal.returns
 returns c = λ f h. growing_end _ _ _ (c.loop-i.invariant f h) c.loop-i-test.false
