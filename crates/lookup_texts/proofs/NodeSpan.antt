@@ -86,6 +86,9 @@ module _ {nodes rows : List ℕ} {f : Forest} (s : Stores nodes rows f) (k : ℕ
       pub span_there : {was : Answer Seen} → seen ≡ was → Ok (ends_of was) ≡ span_answer (read nodes rows) k
       span_there t = ap Ok (told seen_span (sym t ∙ e)) ∙ span_here
 
+      pub span_missing : seen ≡ None → Ok None ≡ span_answer (read nodes rows) k
+      span_missing t = span_there t
+
 -- ---- What a user leans on
 
 -- the answer for a node is the span of its own rows

@@ -4,7 +4,7 @@ use native.Mathlib.Omega.{arith}
 use borrow.Author.Rules.{rules}
 use Rattle.std.specs.Prelude.{Err}
 use Rattle.record_check.proofs.Checked.{any_there, refused_as}
-use Rattle.lookup_texts.proofs.NodeSpan.{own_rows_within, span_malformed, span_past, span_there}
+use Rattle.lookup_texts.proofs.NodeSpan.{own_rows_within, span_malformed, span_past, span_there, span_missing}
 use Rattle.lookup_texts.proofs.span.Goals as goal
 
 pub returns-in_err-check_batch : goal.returns-in_err-check_batch
@@ -21,7 +21,7 @@ span_of-requires c = omega (arith, own_rows_within (any_there _ _ _ (sym c.check
 
 pub returns-in_default : goal.returns-in_default
 returns-in_default c =
-    span_there (any_there _ _ _ (sym c.check_batch.ensures ∙ c.in_ok-check_batch.was)).1 _ c.if-nodes-at.false c.rows_before-first.ensures refl c.span_of.ensures c.in_default.is
+    span_missing (any_there _ _ _ (sym c.check_batch.ensures ∙ c.in_ok-check_batch.was)).1 _ c.if-nodes-at.false c.rows_before-first.ensures refl c.span_of.ensures c.in_default.is
 
 pub returns : goal.returns
 returns c =
