@@ -8,13 +8,7 @@ use Rattle.lines.proofs.Digits.{digits_end, digits_below, digits_above}
 use Rattle.lines.proofs.Reading.{start, more, ends_too_many, ends_too_large, ends_without, ends_with}
 use native.Mathlib.Omega.{arith}
 use Rattle.lines.proofs.read_number.Goals as goal
-use Rattle.lines.proofs.read_number.Lts as Lts
-use Rattle.lines.proofs.read_number.Reads as Reads
-
--- ---- Places in the code
-
-abbrev Left-loop-i : Type 0
-Left-loop-i = Lts.Left-loop Reads.Pre Reads.Post goal.the-invariant-loop-i goal.the-decreases-loop-i
+use Rattle.lines.proofs.read_number.Goals.{Left-loop-i, else-loop-i-test, then-loop-i-test+then-byte-lt-ZERO, then-loop-i-test+else-byte-lt-ZERO+then-byte-gt-NINE}
 
 pub loop-i-init : goal.loop-i-init
 loop-i-init c = start _ _
@@ -38,13 +32,13 @@ loop-i-preserved c =
 stops : (c : Left-loop-i) → digits_of (drop c.loop-i.i c.args.bytes.now) ≡ []
 stops c =
     elim c.loop-i-test.branch [
-      | Lts.else-loop-i-test ended ↦ digits_end _ _ ended.loop-i-test.false
-      | Lts.then-loop-i-test+then-byte-lt-ZERO way ↦ digits_below _ _ way.loop-i-test.true way.if-byte-lt-ZERO.true
-      | Lts.then-loop-i-test+else-byte-lt-ZERO+then-byte-gt-NINE way ↦ digits_above _ _ way.loop-i-test.true way.if-byte-lt-ZERO.false way.if-byte-gt-NINE.true
+      | else-loop-i-test ended ↦ digits_end _ _ ended.loop-i-test.false
+      | then-loop-i-test+then-byte-lt-ZERO way ↦ digits_below _ _ way.loop-i-test.true way.if-byte-lt-ZERO.true
+      | then-loop-i-test+else-byte-lt-ZERO+then-byte-gt-NINE way ↦ digits_above _ _ way.loop-i-test.true way.if-byte-lt-ZERO.false way.if-byte-gt-NINE.true
     ]
 
 pub returns-then-i-at : goal.returns-then-i-at
-returns-then-i-at c = ends_without _ _ _ _ c.loop-i.invariant (stops c.before.before) c.if-i-at.true
+returns-then-i-at c = ends_without _ _ _ _ c.loop-i.invariant (stops (goal.at.returns-then-i-at c).Left-loop-i) c.if-i-at.true
 
 pub returns : goal.returns
-returns c = ends_with _ _ _ _ c.loop-i.invariant (stops c.before.before) c.if-i-at.false
+returns c = ends_with _ _ _ _ c.loop-i.invariant (stops (goal.at.returns c).Left-loop-i) c.if-i-at.false
