@@ -56,6 +56,7 @@ pub fn rows_of_word(rows: &[u32], start: u32, end: u32, word: u32) -> Option<Row
     requires { end * row_width ≤ length rows.now }
     ensures { OfRows rows.now end (λ l. result ≡ tokens_answer (word_rows word start (part start end l))) }
 {
+    // Two numbers, not an Option: `seen` and `earliest`, whose promises stay, speak of them.
     let mut first: u32 = 0;
     let mut after: u32 = 0;
     for i in start..end {
