@@ -5,7 +5,6 @@ ghost use Rattle.join_trees.specs.Outcomes.{fold_outcome};
 ghost use Rattle.record.specs.Read.{read};
 ghost use Rattle.record.specs.Working.{WritesWith};
 
-use fold_check::Decision;
 use record::{Refusal, Written};
 
 // The encodings of a batch joined in their order, from the empty encoding on.
@@ -37,15 +36,7 @@ pub fn merge(
         working_rows.len(),
     );
     match decision {
-        Decision::Refused(why) => Err(why),
-        Decision::TooLarge => {
-            fold_write::zero_all(out_nodes, out_rows, working_nodes, working_rows);
-            Err(Refusal::OffsetTooLarge)
-        }
-        Decision::Fold {
-            nodes: node_count,
-            rows: row_count,
-        } => {
+        Ok(written) => {
             fold_write::write_fold(
                 nodes,
                 rows,
@@ -55,10 +46,14 @@ pub fn merge(
                 working_nodes,
                 working_rows,
             );
-            Ok(Written {
-                nodes: node_count,
-                rows: row_count,
-            })
+            Ok(written)
         }
+        Err(why) => match why {
+            Refusal::OffsetTooLarge => {
+                fold_write::zero_all(out_nodes, out_rows, working_nodes, working_rows);
+                Err(Refusal::OffsetTooLarge)
+            }
+            _ => Err(why),
+        },
     }
 }

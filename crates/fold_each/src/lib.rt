@@ -24,6 +24,7 @@ pub fn fold_each(
     fold_append::start(out_nodes);
     let mut i = 0;
     let mut j = 0;
+    // A while: the next encoding is as many nodes on as this one has, and a range's step is 1.
     while i < nodes.len() {
         let own = record_extent::measure(nodes, i, 1);
         fold_step::fold_step(

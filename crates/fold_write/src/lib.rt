@@ -27,6 +27,7 @@ pub fn write_fold(
 {
     fold_append::start(out_nodes);
     let mut at = Spot { node: 0, row: 0 };
+    // A while: how far a turn goes is what it folds, one encoding or a run.
     while at.node < nodes.len() {
         at = fold_next::fold_next(
             nodes,
