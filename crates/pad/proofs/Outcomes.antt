@@ -1,7 +1,7 @@
 -- What becomes of encodings that are to be padded: each refusal, and the result.
 -- Assumes nothing.
 use Rattle.record.specs.declared.Refusal.{Refusal}
-use Rattle.std.specs.Prelude.{Result}
+use Rattle.std.specs.Prelude.{Result, Err}
 use mathlib.Core.Path.{◌≡◌, refl, sym, ap, subst, ◌∙◌}
 use mathlib.Core.Bool.{Bool, true, false, cond}
 use mathlib.Core.Logic.{⊎_elim}
@@ -17,7 +17,6 @@ use Rattle.record.specs.declared.Refusal.TheVariants.{MalformedRecord, NoRoom, T
 use Rattle.record.specs.declared.Written.{Written}
 use Rattle.record.proofs.One.{one_of, not_one}
 use Rattle.record_check.specs.Answers.{shape_of}
-use Rattle.record_check.specs.declared.Shape.TheVariants.{Malformed}
 use Rattle.record_check.proofs.Checked.{none_of, any_of}
 use Rattle.cut_plan.specs.declared.Direction.{Direction}
 use Rattle.lists.proofs.Numbers.{either}
@@ -68,9 +67,9 @@ capped most target h token d out out' (node r q w x) = ⊎_elim same above (eith
     above : most < target → in_room out out' (padded (min target most) token d (node r q w x)) ≡ in_room out out' (padded target token d (node r q w x))
     above l = refuses (min target most) (omega arith) ∙ sym (refuses target (omega arith))
 
-pub encodings_malformed : (out out' : List ℕ) (pool : ℕ) (strategy : PaddingStrategy) (multiple : ℕ) (token : PadToken) (d : Direction) (r : Reading) → shape_of r ≡ Malformed → pad_encodings_outcome out out' pool strategy multiple token d r ≡ refused MalformedRecord
+pub encodings_malformed : (out out' : List ℕ) (pool : ℕ) (strategy : PaddingStrategy) (multiple : ℕ) (token : PadToken) (d : Direction) (r : Reading) {why : Refusal} → shape_of r ≡ Err why → pad_encodings_outcome out out' pool strategy multiple token d r ≡ refused MalformedRecord
 unfolding pad_encodings_outcome
-encodings_malformed out out' pool strategy multiple token d r e = none_of (refused MalformedRecord) (λ (f : Forest). unless_outside out out' token pool (padded (target_of strategy multiple f) token d f)) r e
+encodings_malformed out out' pool strategy multiple token d r {why} e = none_of (refused MalformedRecord) (λ (f : Forest). unless_outside out out' token pool (padded (target_of strategy multiple f) token d f)) r e
 
 module _ {nodes rows : List ℕ} {f : Forest} (s : Stores nodes rows f) (out out' : List ℕ) (pool : ℕ) (strategy : PaddingStrategy) (multiple : ℕ) (token : PadToken) (d : Direction) where
   encodings_any : pad_encodings_outcome out out' pool strategy multiple token d (read nodes rows) ≡ unless_outside out out' token pool (padded (target_of strategy multiple f) token d f)

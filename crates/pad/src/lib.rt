@@ -10,7 +10,6 @@ use cut_plan::Direction;
 use pad_length::PaddingStrategy;
 use pad_rows::PadToken;
 use record::{Refusal, Written};
-use record_check::Shape;
 
 // One encoding and its windows at every level, each with rows added on one side until it has the target length. One that
 // is long enough stays as it is. Refuses 1 a malformed record, 14 a pad text outside the added texts, 2 no room.
@@ -63,10 +62,7 @@ pub fn pad_encodings(
         (read nodes.now rows.now)) result out_nodes.old out_rows.old
         out_nodes.new out_rows.new }
 {
-    let shape = record_check::check_batch(nodes, rows);
-    let Shape::Encodings(_) = shape else {
-        return Err(Refusal::MalformedRecord);
-    };
+    record_check::check_batch(nodes, rows)?;
     if !pad_length::text_inside(token, added.len()) {
         return Err(Refusal::TextOutsidePool);
     }

@@ -1,6 +1,8 @@
 -- What becomes of stored encodings that are to be padded: no room, or the result.
 -- Assumes nothing.
-use Rattle.std.specs.Prelude.{Ok}
+use Rattle.record.specs.declared.Written.{Written}
+use Rattle.record.specs.declared.Refusal.{Refusal}
+use Rattle.std.specs.Prelude.{Ok, Result}
 use mathlib.Core.Path.{◌≡◌, refl, sym, ap, ap₂, ◌∙◌}
 use Prim.Native.Nat.{ℕ, ◌*◌, ◌/◌, ◌≤◌, ◌<◌}
 use native.Mathlib.Nat.{mul-div_cancel}
@@ -21,6 +23,9 @@ use Rattle.pad_write.specs.Promises.{AskPadded, Filled}
 use Rattle.record.proofs.Passing.{nodes_of, nodes_come, nodes_left}
 use Rattle.pad_write.proofs.Laws.{padded_nodes, padded_rows_lem, padded_fine, padded_well}
 use Rattle.pad_room.proofs.Limits.{long_refused, none_done}
+
+abbrev written : ℕ → ℕ → Result Written Refusal
+written k n = Ok (record { nodes = k; rows = n })
 
 module _ {nodes rows : List ℕ} {f : Forest} (s : Stores nodes rows f) (target : ℕ) (token : PadToken) (d : Direction) (out out' : List ℕ) where
   nodes_long : length nodes ≡ nodes_in f * node_width
@@ -48,7 +53,7 @@ module _ {nodes rows : List ℕ} {f : Forest} (s : Stores nodes rows f) (target 
     stored_writes {total} {out₁} {out₁'} t p =
         let l = room_lengths (padded_fine target token d f s.well.fine) room in
         let n : length nodes / node_width ≡ nodes_in (padded target token d f) = ap (λ (k : ℕ). k / node_width) nodes_long ∙ mul-div_cancel (nodes_in f) (omega arith) ∙ sym (padded_nodes target token d f) in
-        writes_done (padded target token d f) (in_room_lem out out' (padded target token d f) room) l.0 l.1 (ap₂ Ok (record { nodes = n; rows = (t ∙ sym (padded_rows_lem target token d f)) })) p.nodes_put p.rows_put
+        writes_done (padded target token d f) (in_room_lem out out' (padded target token d f) room) l.0 l.1 (ap₂ written n (t ∙ sym (padded_rows_lem target token d f))) p.nodes_put p.rows_put
 
   -- no encodings: nothing is written
   pub stored_none : length nodes ≡ 0 → Writes (in_room out out' (padded target token d f)) (Ok (record { nodes = 0; rows = 0 })) out out' out out'

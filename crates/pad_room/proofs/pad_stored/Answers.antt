@@ -32,12 +32,6 @@ write_padded-requires c =
     let t = c.padded_rows-total.ensures p.0 (nodes_of p.1) in
     stored_asks p.1 _ v.token v.direction _ _ (omega (arith, c.if-total-gt-MOST_ROWS.false)) c.if-out_nodes-nodes.false (omega (arith, c.if-out_rows-total.false))
 
-pub shape_of-out_nodes : goal.shape_of-out_nodes
-shape_of-out_nodes c = c.write_padded.auto.out_nodes
-
-pub shape_of-out_rows : goal.shape_of-out_rows
-shape_of-out_rows c = c.write_padded.auto.out_rows
-
 pub returns : goal.returns
 returns c = λ f h.
     let t = c.padded_rows-total.ensures f (nodes_of h) in
