@@ -60,6 +60,7 @@ fn join_windows(
     let mut window = join_walk::down(s_nodes, s);
     let mut left = join_walk::windows(s_nodes, s);
     let mut place = at;
+    // A while: it counts down what is left, and the window moves on by its own width.
     while left > 0 {
         let paired = join_nodes(
             s_nodes, s_rows, window, p_nodes, p_rows, p, view, growing, out_nodes, out_rows, place,
@@ -101,6 +102,7 @@ fn join_row(
     let mut left = join_walk::windows(p_nodes, p);
     let mut place = at;
     let seen = join_view::below(view);
+    // A while: it counts down what is left, and the window moves on by its own width.
     while left > 0 {
         place = join_nodes(
             s_nodes, s_rows, s, p_nodes, p_rows, window, seen, growing, out_nodes, out_rows, place,
