@@ -33,6 +33,7 @@ pub fn grain_of(size: usize, smallest: Grain) -> Grain
 {
     let mut shift = smallest.shift;
     let mut block = smallest.block;
+    // A while: it doubles until that is enough.
     while block * BLOCKS < size {
         block *= 2;
         shift += 1;

@@ -23,6 +23,7 @@ pub fn all_known(text: &[u8], entries: &[u32], added: &[u8]) -> Result<(), Refus
     ensures { KnownIn text.now entries.now added.now result }
 {
     let mut at: usize = 0;
+    // A loop: the next piece starts where this one says.
     loop {
         let Some(step) = template_text::piece_from(text, at)? else {
             return Ok(());

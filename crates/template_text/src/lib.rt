@@ -52,6 +52,7 @@ fn read_pieces(text: &[u8], pieces: &mut [u32]) -> Result<usize, Refusal>
 {
     let mut at: usize = 0;
     let mut count: usize = 0;
+    // A loop: the next piece starts where this one says.
     loop {
         let Some(step) = piece_from(text, at)? else {
             return Ok(count);

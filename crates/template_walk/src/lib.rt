@@ -27,6 +27,7 @@ pub fn sequences_in(text: &[u8]) -> Result<Named, Refusal>
     let mut a = false;
     let mut b = false;
     let mut at: usize = 0;
+    // A loop: the next piece starts where this one says.
     loop {
         let Some(step) = template_text::piece_from(text, at)? else {
             return Ok(Named { a, b });
@@ -49,6 +50,7 @@ pub fn count_pieces(text: &[u8], entries: &[u32], added: &[u8]) -> Result<u64, R
     }
     let mut sum: u64 = 0;
     let mut at: usize = 0;
+    // A loop: the next piece starts where this one says.
     loop {
         let Some(coming) = template_text::piece_from(text, at)? else {
             return Ok(sum);
