@@ -1,5 +1,5 @@
 -- How a replay program counts. Assumes nothing: these are definitions.
-use Rattle.std.specs.Prelude.{◌≡◌, true, ℕ, ◌+◌, min}
+use Rattle.std.specs.Prelude.{◌≡◌, true, ℕ, ◌+◌, ◌≤◌, min}
 use Rattle.replay_answers.specs.declared.Outcome.{Outcome}
 use Rattle.replay_answers.specs.declared.Outcome.TheVariants.{Skipped, Same, Differs, Bad}
 use Rattle.replay_counts.specs.declared.Progress.{Progress}
@@ -41,3 +41,9 @@ pub record Kept (before r : Progress) : Type 0 where
   pub differ : r.differ ≡ before.differ
   pub bad : r.bad ≡ before.bad
   pub failed : before.failed ≡ true → r.failed ≡ true
+
+-- the counts agree: a case that differs is a case, and cases and bad lines are lines
+pub record Tallied (p : Progress) : Type 0 where
+  pub differ_few : p.differ ≤ p.cases
+  pub cases_few : p.cases ≤ p.lines
+  pub bad_few : p.bad ≤ p.lines

@@ -3,7 +3,7 @@
 #![tactic(auto)]
 
 ghost use Rattle.std.specs.Prelude.{◌≡◌};
-ghost use Rattle.replay_counts.specs.Counting.{more, Counted, Kept};
+ghost use Rattle.replay_counts.specs.Counting.{more, Counted, Kept, Tallied};
 
 use input_lines::Unread;
 use replay_answers::Outcome;
@@ -20,7 +20,8 @@ pub struct Progress {
 
 // Before any line has ended.
 pub fn start() -> Progress
-    ensures { result.lines ≡ 0 }
+    ensures lines { result.lines ≡ 0 }
+    ensures tallied { Tallied result }
 {
     Progress {
         lines: 0,
@@ -33,7 +34,8 @@ pub fn start() -> Progress
 
 // Counts what a line turned out to be, and prints it unless its answers are the same.
 pub fn counted(rt: &(impl Print + Eprint), before: Progress, outcome: Outcome) -> Progress
-    ensures { Counted before outcome result }
+    ensures counted { Counted before outcome result }
+    ensures tallied { Tallied before → Tallied result }
 {
     let lines = one_more(before.lines);
     let failed = !print_outcome(rt, lines, outcome);
@@ -78,7 +80,8 @@ fn print_line(rt: &(impl Print + Eprint), number: u64, what: &[u8]) -> bool {
 
 // Prints the counts, once all lines have ended: not if a read or a write failed, of which standard error has a line.
 pub fn print_counts(rt: &(impl Print + Eprint), progress: Progress, unread: Unread) -> Progress
-    ensures { Kept progress result }
+    ensures kept { Kept progress result }
+    ensures tallied { Tallied progress → Tallied result }
 {
     if unread.failed || progress.failed {
         return progress;

@@ -8,12 +8,14 @@
 
 ghost use Rattle.std.specs.Prelude.{◌≡◌, false, length, IfOk, IfSome};
 ghost use Rattle.io.specs.Counts.{IsPrefixLen};
+ghost use Rattle.replay_counts.specs.Counting.{Tallied};
 ghost use Rattle.replay_program.specs.Comments.{skips};
 ghost use Rattle.replay_program.specs.Promises.{Inside, is_skipped};
 
 use input_lines::{PIECE, TooLong, Unread};
 use replay_answers::Outcome;
 use replay_cases::Part;
+use replay_counts::Progress;
 
 const COMMENT: u8 = b'#';
 
@@ -46,17 +48,18 @@ pub struct Next {
 }
 
 // Replays all of the input, up to a read or a write that fails: the operation of each case, its two lists and what follows them
-// are handed to `replay`.
+// are handed to `replay`. Answers the counts that it printed.
 pub fn replay_all<F: Fn(u32, &[u32], &[u32], &[u32]) -> Outcome>(
     rt: &(impl Input + Print + Eprint),
     replay: F,
-)
+) -> Progress
     requires { F.IsAlwaysCallable replay }
+    ensures { Tallied result }
 {
     let mut piece = [0u8; PIECE];
     let mut line = [0u8; LINE];
     let mut numbers = [0u32; NUMBERS];
-    replay_input(rt, &mut piece, &mut line, &mut numbers, replay);
+    replay_input(rt, &mut piece, &mut line, &mut numbers, replay)
 }
 
 // A proved loop has to end, and nothing says that an input does: so the turns are counted, up to a number that no run uses up.
@@ -66,8 +69,9 @@ fn replay_input<F: Fn(u32, &[u32], &[u32], &[u32]) -> Outcome>(
     line: &mut [u8; LINE],
     numbers: &mut [u32; NUMBERS],
     replay: F,
-)
+) -> Progress
     requires { F.IsAlwaysCallable replay }
+    ensures { Tallied result }
 {
     let mut progress = replay_counts::start();
     let mut unread = input::start();
@@ -87,7 +91,7 @@ fn replay_input<F: Fn(u32, &[u32], &[u32], &[u32]) -> Outcome>(
             break;
         }
     }
-    replay_counts::print_counts(rt, progress, unread);
+    replay_counts::print_counts(rt, progress, unread)
 }
 
 fn replay_parts<F: Fn(u32, &[u32], &[u32], &[u32]) -> Outcome>(
