@@ -11,12 +11,11 @@ use Rattle.record.specs.Tree.{Row, Range, Encoding, windows, encoding, absent, s
 use Rattle.record.specs.WellFormed.{most_rows}
 use Rattle.join_trees.proofs.Sizes.{no_more_fits, join_no_less_right}
 use Rattle.join_levels.specs.declared.Profile.{Profile}
-use Rattle.join_levels.specs.declared.Answer.{Answer}
-use Rattle.join_levels.specs.Levels.{sum, weight_at, counted_once, ProfileOf, Profiled}
+use Rattle.std.specs.Prelude.{None}
+use Rattle.join_levels.specs.Levels.{sum, weight_at, counted_once, ProfileOf, Profiled, Measured}
 use Rattle.join_table.specs.Table.{level_count, at}
 use Rattle.join_levels.specs.Promises.{SizesJoin}
 use Rattle.join_table.proofs.Passes.{zeros}
-use Rattle.join_levels.proofs.Limits.{refuses}
 use Rattle.template_entries.specs.Table.{no_member}
 use Rattle.template_entries.specs.Rows.{special_row, members_of}
 use Rattle.join_view.specs.declared.View.{View}
@@ -80,13 +79,13 @@ alone_profiled {p} n l is =
 -- ---- Joined to what was folded so far
 
 -- more than the limit are too large
-pub alone_many : {so_far : Profile} {n : ℕ} {r : Answer} → most_rows < n → r.fits ≡ false → MeasuresAlone so_far n r
-alone_many l e S P os h = refuses e (λ f. omega (arith, h.rows_are, (no_more_fits (join_no_less_right false S P) f).few_rows))
+pub alone_many : {so_far : Profile} {n : ℕ} → most_rows < n → MeasuresAlone so_far n None
+alone_many l S P os h = λ f. omega (arith, h.rows_are, (no_more_fits (join_no_less_right false S P) f).few_rows)
 
-pub alone_joined : {so_far p : Profile} {n : ℕ} {r : Answer} → ProfilesAlone n p → SizesJoin so_far p r → MeasuresAlone so_far n r
-alone_joined is sized S P os h = sized false S P os (is P h)
+pub alone_joined : {so_far p : Profile} {n : ℕ} (r : Measured) → ProfilesAlone n p → SizesJoin so_far p r → MeasuresAlone so_far n r
+alone_joined r is sized S P os h = sized false S P os (is P h)
 
-module _ (entries : List ℕ) {so_far first second : Profile} {s : Step} {r : Answer} where
+module _ (entries : List ℕ) {so_far first second : Profile} {s : Step} (r : Measured) where
   by_kind : {s' : Step} → s ≡ s' → MeasuresStep so_far entries s' first second r → MeasuresStep so_far entries s first second r
   by_kind e m = subst (λ (k : Step). MeasuresStep so_far entries k first second r) (sym e) m
 

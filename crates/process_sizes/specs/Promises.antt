@@ -1,11 +1,10 @@
 -- What the functions ask and give by which the result of a template's steps is measured before it is built.
 -- Assumes nothing: these are definitions.
-use Rattle.std.specs.Prelude.{false, List, map, ℕ}
+use Rattle.std.specs.Prelude.{false, List, map, ℕ, Option as Answer}
 use Rattle.std.proofs.Math.Option.{Option}
 use Rattle.record.specs.Tree.{Encoding}
 use Rattle.join_trees.specs.Join.{join, fold}
 use Rattle.join_levels.specs.declared.Profile.{Profile}
-use Rattle.join_levels.specs.declared.Answer.{Answer}
 use Rattle.join_levels.specs.Levels.{ProfileOf, Profiled, Measures}
 use Rattle.process_steps.specs.declared.Step.{Step}
 use Rattle.process_steps.specs.Promises.{StepFine, EntryThere}
@@ -30,7 +29,7 @@ abbrev pub ProfilesAlone : ℕ → Profile → Type 0
 ProfilesAlone count p = (P : Encoding) → Alone P count → ProfileOf P p
 
 -- the join of what was folded so far with any such
-abbrev pub MeasuresAlone : Profile → ℕ → Answer → Type 0
+abbrev pub MeasuresAlone : Profile → ℕ → Answer Profile → Type 0
 MeasuresAlone so_far count r = (S P : Encoding) → ProfileOf S so_far → Alone P count → Measures (join false S P) r
 
 -- What was folded so far and the two encodings are within the limits, and the step's entry is one of the table.
@@ -41,11 +40,11 @@ pub record AskStepSize (so_far : Profile) (entries : List ℕ) (step : Step) (fi
   pub entry_there : EntryThere entries step
 
 -- the join of what was folded so far with what a step joins
-abbrev pub MeasuresStep : Profile → List ℕ → Step → Profile → Profile → Answer → Type 0
+abbrev pub MeasuresStep : Profile → List ℕ → Step → Profile → Profile → Answer Profile → Type 0
 MeasuresStep so_far entries step first second r =
     (S : Encoding) (members : List ℕ) (E : Encoding) (o : Option Encoding) → ProfileOf S so_far → ProfileOf E first → ProfileOf (second_or o) second → StepFine entries members o step → Measures (join false S (step_encoding entries members E o step)) r
 
 -- what the steps give, whatever they speak of
-abbrev pub MeasuresSteps : List ℕ → ℕ → List ℕ → List ℕ → ℕ → Answer → Type 0
+abbrev pub MeasuresSteps : List ℕ → ℕ → List ℕ → List ℕ → ℕ → Answer Profile → Type 0
 MeasuresSteps nodes k entries numbers count r =
     (members : List ℕ) (E : Encoding) (second : Option Encoding) (steps : List Step) → StepsOf nodes k entries numbers count members E second steps → Measures (fold false (map (step_encoding entries members E second) steps)) r

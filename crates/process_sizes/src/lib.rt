@@ -5,7 +5,7 @@ ghost use Rattle.join_levels.specs.Levels.{Profiled};
 ghost use Rattle.process_rows.specs.Promises.{AskSteps, AskAt};
 ghost use Rattle.process_sizes.specs.Promises.{SizesSteps, ProfileAt, ProfilesAlone, MeasuresAlone, AskStepSize, MeasuresStep, MeasuresSteps};
 
-use join_levels::{Answer, Profile};
+use join_levels::Profile;
 use join_table::LEVELS;
 use process_steps::Step;
 use record::Encoding;
@@ -37,26 +37,27 @@ fn profile_of_rows(count: usize) -> Profile
     }
 }
 
-// What was folded so far, joined with so many special rows. More than the limit are too large whatever they are joined to.
-fn with_special(so_far: Profile, count: usize) -> Answer
+// What was folded so far, joined with so many special rows; none if that is too large. More than the limit are so whatever they are
+// joined to.
+fn with_special(so_far: Profile, count: usize) -> Option<Profile>
     requires { Profiled so_far }
     ensures { MeasuresAlone so_far count result }
 {
     if Encoding::MOST_ROWS < count {
-        return join_levels::too_large();
+        return None;
     }
     let special = profile_of_rows(count);
     join_levels::joined_profile(so_far, special)
 }
 
-// What was folded so far, joined with what a step joins.
+// What was folded so far, joined with what a step joins; none if that is too large.
 fn with_step(
     so_far: Profile,
     entries: &[u32],
     step: Step,
     first: Profile,
     second: Profile,
-) -> Answer
+) -> Option<Profile>
     requires { AskStepSize so_far entries.now step first second }
     ensures { MeasuresStep so_far entries.now step first second result }
 {
@@ -70,34 +71,25 @@ fn with_step(
     }
 }
 
-// The profile of what the steps give, step by step; or that it is too large, at the first step that is.
+// The profile of what the steps give, step by step; none if it is too large, at the first step that is.
 fn profile_of_steps(
     nodes: &[u32],
     second: usize,
     entries: &[u32],
     steps: &[u32],
     count: usize,
-) -> Answer
+) -> Option<Profile>
     requires { AskSteps nodes.now second entries.now steps.now count }
     ensures { MeasuresSteps nodes.now second entries.now steps.now count result }
 {
     let of_first = profile_of(nodes, 0);
     let of_second = profile_of(nodes, second);
     let mut so_far = fold_levels::empty_profile();
-    let mut i = 0;
-    while i < count {
+    for i in 0..count {
         let step = process_steps::step_at(steps, i);
-        let r = with_step(so_far, entries, step, of_first, of_second);
-        if !r.fits {
-            return join_levels::too_large();
-        }
-        so_far = r.profile;
-        i += 1;
+        so_far = with_step(so_far, entries, step, of_first, of_second)?;
     }
-    Answer {
-        fits: true,
-        profile: so_far,
-    }
+    Some(so_far)
 }
 
 // What the first `count` steps give of the encodings that begin the nodes and that begin at `second`. Where none of them has

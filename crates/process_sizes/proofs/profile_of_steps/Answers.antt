@@ -2,8 +2,6 @@
 -- Assumes nothing.
 use mathlib.Core.Option.{some}
 use native.Mathlib.Omega.{arith}
-use borrow.Author.Tests.{not-true, not-false}
-use Rattle.join_levels.proofs.Limits.{refuses, answers}
 use Rattle.process_sizes.proofs.Places.{place_profiled}
 use Rattle.process_rows.proofs.Walked.{walked_start, steps_inside, walked_end}
 use Rattle.process_sizes.proofs.Turns.{profile_more, profile_stop}
@@ -22,8 +20,8 @@ loop-i-init c = λ members E o list h. walked_start list (c.empty_profile-so_far
 pub step_at-step-requires : goal.step_at-step-requires
 step_at-step-requires c = let a = c.requires in steps_inside _ a.steps_of c.loop-i-test.true
 
-pub with_step-r-requires : goal.with_step-r-requires
-with_step-r-requires c =
+pub with_step-requires : goal.with_step-requires
+with_step-requires c =
     let a = c.requires in
     let h = a.steps_of in
     let (is, fits) = (c.loop-i.invariant a.members a.E a.second a.steps h).has in
@@ -34,19 +32,13 @@ with_step-r-requires c =
       entry_there = step_there h c.loop-i-test.true c.step_at-step.ensures;
     }
 
-pub returns-then-not-r : goal.returns-then-not-r
-returns-then-not-r c = λ members E o list h.
-    refuses c.too_large.ensures
-    (profile_stop h c.loop-i-test.true c.step_at-step.ensures c.profile_of-of_first.ensures c.profile_of-of_second.ensures c.with_step-r.ensures (c.loop-i.invariant members E o list h) (not-true _ c.if-not-r.true))
-
-pub overflow_add-i : goal.overflow_add-i
-overflow_add-i c =
-    let a = c.requires in
-    omega (arith, c.loop-i-test.true, a.steps_of.few)
+pub returns-in_err-so_far : goal.returns-in_err-so_far
+returns-in_err-so_far c = λ members E o list h.
+    rw c.from_residual.ensures (profile_stop h c.loop-i-test.true c.step_at-step.ensures _ c.profile_of-of_first.ensures c.profile_of-of_second.ensures c.with_step.ensures (c.loop-i.invariant members E o list h) c.in_err-so_far.was)
 
 pub loop-i-preserved : goal.loop-i-preserved
 loop-i-preserved c = λ members E o list h.
-    profile_more h c.loop-i-test.true c.step_at-step.ensures c.profile_of-of_first.ensures c.profile_of-of_second.ensures c.with_step-r.ensures (c.loop-i.invariant members E o list h) (not-false _ c.if-not-r.false)
+    profile_more h c.loop-i-test.true c.step_at-step.ensures _ c.profile_of-of_first.ensures c.profile_of-of_second.ensures c.with_step.ensures (c.loop-i.invariant members E o list h) c.in_ok-so_far.was
 
 pub returns : goal.returns
-returns c = λ members E o list h. let (is, fits) = walked_end _ h.counted (c.loop-i.invariant members E o list h) c.loop-i-test.false in answers is fits
+returns c = λ members E o list h. walked_end _ h.counted (c.loop-i.invariant members E o list h) c.loop-i-test.false

@@ -25,7 +25,7 @@ returns-then-is_windowless-2 c = λ members E o list h.
 pub size_of-requires : goal.size_of-requires
 size_of-requires c =
     let a = c.requires in
-    measured_profiled (c.profile_of_steps.ensures a.members a.E a.second a.steps a.steps_of)
+    measured_profiled _ _ (c.profile_of_steps.ensures a.members a.E a.second a.steps a.steps_of)
 
 pub returns : goal.returns
 returns c = λ members E o list h. c.size_of.ensures (fold false (map (step_encoding _ members E o) list)) (c.profile_of_steps.ensures members E o list h)
