@@ -4,11 +4,10 @@
 
 ghost use Rattle.std.specs.Prelude.{not, ◌&&◌, cond, ◌≡◌};
 ghost use Rattle.template_find.specs.Promises.{IdsInside};
-ghost use Rattle.process_template.specs.Promises.{OneOrTwoStored, SecondAt, ChecksTemplate, names_second};
+ghost use Rattle.process_template.specs.Promises.{OneOrTwoStored, SecondAt, ChecksTemplate};
 
 use record::{Encoding, Refusal, Spot};
-use template_known::Validity;
-use template_walk::SequencesAnswer;
+use template_walk::Named;
 
 // The text of the template that is used, which is the pair's where there is a second encoding.
 pub fn text_for<'a>(
@@ -48,33 +47,27 @@ pub fn check_template(
     add_special_tokens: bool,
     entries: &[u32],
     added: &[u8],
-) -> Validity
+) -> Result<(), Refusal>
     requires { IdsInside entries.now added.now }
     ensures { ChecksTemplate text.now second add_special_tokens entries.now added.now
         result }
 {
-    let named = template_walk::sequences_in(text);
-    if let SequencesAnswer::Refused(why) = named {
-        return Validity::Refused(why);
-    }
+    let named = template_walk::sequences_in(text)?;
     if lacks_second(named, second) {
-        return Validity::Refused(Refusal::BWithoutSecond);
+        return Err(Refusal::BWithoutSecond);
     }
     if !add_special_tokens {
-        return Validity::Valid;
+        return Ok(());
     }
     template_known::all_known(text, entries, added)
 }
 
 // Whether a template names the second encoding, and there is none.
-fn lacks_second(named: SequencesAnswer, second: bool) -> bool
-    ensures { result ≡ (not second && names_second named) }
+fn lacks_second(named: Named, second: bool) -> bool
+    ensures { result ≡ (not second && named.b) }
 {
     if second {
         return false;
     }
-    match named {
-        SequencesAnswer::Refused(_) => false,
-        SequencesAnswer::Named { a: _, b } => b,
-    }
+    named.b
 }
