@@ -1,6 +1,6 @@
 -- What the functions ask and give that decide whether a template can be applied, and by which steps.
 -- Assumes nothing: these are definitions.
-use Rattle.std.specs.Prelude.{◌≡◌, Bool, true, false, List, map, ℕ, eqb}
+use Rattle.std.specs.Prelude.{◌≡◌, Bool, true, false, List, map, ℕ, eqb, Result, Ok, Err}
 use Rattle.std.proofs.Math.Option.{Option}
 use Rattle.record.specs.Tree.{Encoding}
 use Rattle.record.specs.Read.{all_ok}
@@ -16,8 +16,7 @@ use Rattle.process_steps.specs.declared.Step.{Step}
 use Rattle.process_steps.specs.Applied.{lacks_second, folded_into}
 use Rattle.process_steps.specs.Steps.{step_encoding}
 use Rattle.process_steps.specs.Promises.{StepsHere}
-use Rattle.process_check.specs.declared.Decision.{Decision}
-use Rattle.process_check.specs.declared.Decision.TheVariants.{Refused as RefusedWith, Take}
+use Rattle.process_check.specs.declared.Take.{Take}
 
 -- ---- The decision: of an outcome by the output and the working store, what is known without them
 
@@ -34,9 +33,9 @@ pub record TakenBy (outcome : List ℕ → List ℕ → List ℕ → List ℕ �
   pub steps_here : StepsHere nodes rows s entries members numbers count E second steps
   pub folded : (out out' working working' : List ℕ) → outcome out out' working working' ≡ folded_into (map (step_encoding entries members E second) steps) out out' working working'
 
-abbrev pub DecidesProcess : (List ℕ → List ℕ → List ℕ → List ℕ → Outcome) → List ℕ → List ℕ → List ℕ → List ℕ → List ℕ → Decision → Type 0
-DecidesProcess outcome nodes rows entries members numbers (RefusedWith k) = RefusedBy outcome k
-DecidesProcess outcome nodes rows entries members numbers (Take s count) = TakenBy outcome nodes rows entries members numbers s count
+abbrev pub DecidesProcess : (List ℕ → List ℕ → List ℕ → List ℕ → Outcome) → List ℕ → List ℕ → List ℕ → List ℕ → List ℕ → Result Take Refusal → Type 0
+DecidesProcess outcome nodes rows entries members numbers (Err k) = RefusedBy outcome k
+DecidesProcess outcome nodes rows entries members numbers (Ok t) = TakenBy outcome nodes rows entries members numbers t.second t.count
 
 -- ---- What passed
 

@@ -6,16 +6,13 @@ ghost use Rattle.template_text.specs.Template.{most_parts, piece_width};
 ghost use Rattle.process_check.specs.Promises.{DecidesProcess};
 ghost use Rattle.process_check.specs.Process.{process_outcome};
 
-use process_plan::PlanAnswer;
 use record::{Refusal, Spot};
-use template_known::Validity;
-use template_table::TableAnswer;
 
-// Refused; or so many steps to take, with the spot of the second encoding.
+// So many steps to take, with the spot of the second encoding.
 #[derive(Clone, Copy)]
-pub enum Decision {
-    Refused(Refusal),
-    Take { second: Spot, count: usize },
+pub struct Take {
+    pub second: Spot,
+    pub count: usize,
 }
 
 // The steps by which one or two encodings are put together, written to `steps`; or the refusal that comes first: 1 a malformed
@@ -33,7 +30,7 @@ pub fn decide<'a>(
     added: &[u8],
     add_special_tokens: bool,
     steps: &mut [u32],
-) -> Decision
+) -> Result<Take, Refusal>
     requires { length steps.old ≡ most_parts * piece_width }
     ensures { DecidesProcess
         (process_outcome nodes.now rows.now single_set single.now pair_set pair.now
@@ -41,12 +38,9 @@ pub fn decide<'a>(
         nodes.now rows.now entries.now members.now steps.new result }
 {
     if !record_check::is_one_or_two(nodes, rows) {
-        return Decision::Refused(Refusal::MalformedRecord);
+        return Err(Refusal::MalformedRecord);
     }
-    let table = template_table::check_table(entries, members, added);
-    if let TableAnswer::Refused(why) = table {
-        return Decision::Refused(why);
-    }
+    template_table::check_table(entries, members, added)?;
     let second = process_template::second_spot(nodes, rows);
     let has_second = second.node < nodes.len();
     let text = process_template::text_for(
@@ -58,19 +52,7 @@ pub fn decide<'a>(
         pair,
         b"$A:0 $B:1",
     );
-    let checked = process_template::check_template(
-        text,
-        has_second,
-        add_special_tokens,
-        entries,
-        added,
-    );
-    if let Validity::Refused(why) = checked {
-        return Decision::Refused(why);
-    }
-    let answer = process_plan::plan(text, add_special_tokens, entries, added, steps);
-    match answer {
-        PlanAnswer::Refused(why) => Decision::Refused(why),
-        PlanAnswer::Steps(count) => Decision::Take { second, count },
-    }
+    process_template::check_template(text, has_second, add_special_tokens, entries, added)?;
+    let count = process_plan::plan(text, add_special_tokens, entries, added, steps)?;
+    Ok(Take { second, count })
 }
