@@ -4,8 +4,8 @@
 ghost use Rattle.record.specs.Working.{WritesWith};
 ghost use Rattle.process_check.specs.Process.{process_outcome};
 
-use process_check::Decision;
-use record::Written;
+use process_check::Take;
+use record::{Refusal, Written};
 use template_text::Template;
 
 // One or two encodings, put together as the template for one or for two says: each piece that names an encoding is that
@@ -37,7 +37,7 @@ pub fn process<'a>(
         out_rows.new working_nodes.new working_rows.new }
 {
     let mut steps = [0; Template::PIECES];
-    let decision = process_check::decide(
+    let Take { second, count } = process_check::decide(
         nodes,
         rows,
         single_set,
@@ -49,21 +49,18 @@ pub fn process<'a>(
         added,
         add_special_tokens,
         &mut steps,
-    );
-    match decision {
-        Decision::Refused(why) => Err(why),
-        Decision::Take { second, count } => process_apply::apply_steps(
-            nodes,
-            rows,
-            second,
-            entries,
-            members,
-            &steps,
-            count,
-            out_nodes,
-            out_rows,
-            working_nodes,
-            working_rows,
-        ),
-    }
+    )?;
+    process_apply::apply_steps(
+        nodes,
+        rows,
+        second,
+        entries,
+        members,
+        &steps,
+        count,
+        out_nodes,
+        out_rows,
+        working_nodes,
+        working_rows,
+    )
 }

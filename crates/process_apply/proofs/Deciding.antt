@@ -78,4 +78,4 @@ module _ {nodes rows : List ℕ} {s : Spot} {entries members numbers : List ℕ}
           let fine : Fine F = fold_fine false all (steps_fine entries members h.inputs steps h.fine) in
           let l = room_lengths fine r.room in
           let k = roomy_takes sized out out' e in
-          with_done F done (writes_done F done l.0 l.1 (ap₂ Ok (record { nodes = k.nodes; rows = k.rows })) put.nodes_put put.rows_put) zero
+          with_done F done (writes_done F done l.0 l.1 (ap₂ (λ (a b : ℕ). Ok (record { nodes = a; rows = b })) k.nodes k.rows) put.nodes_put put.rows_put) zero
