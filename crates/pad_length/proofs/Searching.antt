@@ -24,13 +24,6 @@ pub searching_start : {nodes : List ℕ} {f : Forest} → NodesOf nodes f → Se
 searching_start {nodes} {f} h = record { windows = none; after = f; coming = nodes_come h; counts = omega arith; found = omega arith }
 
 module _ {nodes : List ℕ} {i most pending : ℕ} {f : Forest} (s : Searching nodes i most pending f) where
-  pub searching_fits : i < length nodes → i + node_width ≤ length nodes
-  searching_fits l = go (followed s.windows s.after) s.coming
-    where
-      go : (y : Forest) → NodesToCome nodes i y → i + node_width ≤ length nodes
-      go none k = absurd (omega (arith, nodes_left k))
-      go (node r q w x) k = coming_fits k
-
   -- no more windows are pending than there may be nodes
   pub searching_pending : length nodes ≤ most_nodes * node_width → pending ≤ most_nodes
   searching_pending l = omega (arith, s.counts, nodes_left s.coming, tops_few (followed s.windows s.after), followed_tops s.windows s.after)
@@ -59,7 +52,7 @@ module _ {nodes : List ℕ} {i most pending : ℕ} {f : Forest} (s : Searching n
             found = s.found;
           }
 
-  pub searching_end : length nodes ≤ i → most ≡ longest f
+  pub searching_end : length nodes < i + node_width → most ≡ longest f
   searching_end l = go s.windows s.after s.coming s.found
     where
       go : (v y : Forest) → NodesToCome nodes i (followed v y) → longest f ≡ max most (longest y) → most ≡ longest f

@@ -52,11 +52,10 @@ fn longest_top(nodes: &[u32]) -> u64
 {
     let mut most: u32 = 0;
     let mut pending: u32 = 0;
-    let mut i: usize = 0;
-    while i < nodes.len() {
+    for n in 0..nodes.len() / Encoding::NODE_WIDTH {
+        let i = n * Encoding::NODE_WIDTH;
         let size = nodes[i];
         let windows = nodes[i + 1];
-        i += Encoding::NODE_WIDTH;
         if pending == 0 {
             most = most.max(size);
             pending = windows;
@@ -80,10 +79,8 @@ pub fn padded_rows(nodes: &[u32], target: u32) -> usize
     ensures { (f : Forest) → NodesOf nodes.now f → result ≡ rows_with target f }
 {
     let mut total: usize = 0;
-    let mut i: usize = 0;
-    while i < nodes.len() {
-        total += nodes[i].max(target) as usize;
-        i += Encoding::NODE_WIDTH;
+    for n in 0..nodes.len() / Encoding::NODE_WIDTH {
+        total += nodes[n * Encoding::NODE_WIDTH].max(target) as usize;
     }
     total
 }

@@ -1,25 +1,27 @@
 -- `padded_rows` adds up the rows node by node. Few nodes of 32 bits each fit. Assumes nothing.
+use mathlib.Core.Path.{◌≡◌}
+use Prim.Native.Nat.{ℕ, ◌+◌, ◌*◌}
 use native.Mathlib.Omega.{arith}
+use Rattle.record.specs.Flat.{node_width}
 use Rattle.record.proofs.Passing.{nodes_few}
-use Rattle.pad_length.proofs.Summing.{summing_start, summing_fits, summing_turn, summing_end}
+use Rattle.pad_length.proofs.Summing.{summing_start, summing_turn, summing_end}
 use Rattle.pad_length.proofs.padded_rows.Goals as goal
 
--- A turn passes a whole node, by `summing_fits`, and adds the rows that the node has then.
+-- the next node stands a node's width on
+next : (n : ℕ) → n * node_width + node_width ≡ (n + 1) * node_width
+next n = omega arith
 
-pub loop-i-init : goal.loop-i-init
-loop-i-init c = (omega arith, omega arith, λ f h. summing_start _ h)
+pub loop-n-init : goal.loop-n-init
+loop-n-init c = (omega arith, λ f h. summing_start _ h)
 
 pub overflow_add-total : goal.overflow_add-total
-overflow_add-total c = omega (arith, c.type_inv.nodes c.loop-i.i, nodes_few c.requires.1)
+overflow_add-total c = omega (arith, c.type_inv.nodes (c.loop-n.n * 26), nodes_few c.requires.1, c.max.ensures, c.loop-n.invariant.0, c.loop-n-test.true)
 
-pub loop-i-preserved : goal.loop-i-preserved
-loop-i-preserved c =
-    let p = c.requires in
-    let fits = summing_fits (c.loop-i.invariant.2 p.0 p.1) c.loop-i-test.true in (
-      omega (arith, fits),
-      omega (arith, fits, c.type_inv.nodes c.loop-i.i, c.loop-i.invariant.1),
-      λ f h. rw c.max.ensures (summing_turn (c.loop-i.invariant.2 f h) c.loop-i-test.true),
-    )
+pub loop-n-preserved : goal.loop-n-preserved
+loop-n-preserved c = (
+  omega (arith, c.type_inv.nodes (c.loop-n.n * 26), c.max.ensures, c.loop-n.invariant.0),
+  λ f h. rw (← next c.loop-n.n, c.max.ensures) (summing_turn (c.loop-n.invariant.1 f h) (omega (arith, c.loop-n-test.true))),
+)
 
 pub returns : goal.returns
-returns c f h = summing_end (c.loop-i.invariant.2 f h) c.loop-i-test.false
+returns c f h = summing_end (c.loop-n.invariant.1 f h) (omega (arith, c.loop-n-test.false))
