@@ -31,6 +31,7 @@ pub fn plan(
 {
     let mut at: usize = 0;
     let mut count: usize = 0;
+    // A loop: the next piece starts where this one says.
     loop {
         let Some(coming) = next_step(text, at, add_special_tokens, entries, added)? else {
             return Ok(count);

@@ -27,8 +27,7 @@ pub fn write_steps(
         out_nodes.new out_rows.new }
 {
     fold_append::start(out_nodes);
-    let mut i = 0;
-    while i < count {
+    for i in 0..count {
         let step = process_steps::step_at(steps, i);
         process_take::write_step(
             nodes,
@@ -42,6 +41,5 @@ pub fn write_steps(
             working_nodes,
             working_rows,
         );
-        i += 1;
     }
 }

@@ -1,7 +1,6 @@
 -- `write_steps` writes the empty encoding and takes one step more each turn. Assumes nothing.
 use mathlib.Core.Path.{◌≡◌, ◌∙◌}
 use mathlib.Core.List.{[], ◌∷◌}
-use native.Mathlib.Omega.{arith}
 use lib.ListN.{length}
 use Rattle.record.specs.Tree.{empty}
 use Rattle.record.specs.Standing.{Put}
@@ -26,12 +25,6 @@ pub write_step-requires : goal.write_step-requires
 write_step-requires c =
     let begun : Put (empty ∷ []) c.args.out_nodes.now 0 c.args.out_rows.now 0 c.start.new.out_nodes c.args.out_rows.now = empty_put c.start.ensures in
     going_asks begun c.loop-i.invariant c.requires c.loop-i-test.true c.step_at-step.ensures
-
-pub overflow_add-i : goal.overflow_add-i
-overflow_add-i c = omega (arith, c.loop-i-test.true)
-
-pub loop-i-smaller : goal.loop-i-smaller
-loop-i-smaller c = omega (arith, c.loop-i-test.true)
 
 pub loop-i-preserved : goal.loop-i-preserved
 loop-i-preserved c =
