@@ -17,17 +17,14 @@ pub fn run_from(nodes: &[u32], i: usize) -> Run
     requires { AskRunFrom nodes.now i }
     ensures { FindsRun nodes.now i result }
 {
-    let mut at = i;
-    let mut count: usize = 0;
+    let left = (nodes.len() - i) / Encoding::NODE_WIDTH;
     let mut rows: usize = 0;
-    // A while: the next node is one node's width on, and a range's step is 1.
-    while at < nodes.len() {
+    for count in 0..left {
+        let at = i + count * Encoding::NODE_WIDTH;
         if nodes[at + 1] != 0 {
             return Run { nodes: count, rows };
         }
         rows += nodes[at] as usize;
-        count += 1;
-        at += Encoding::NODE_WIDTH;
     }
-    Run { nodes: count, rows }
+    Run { nodes: left, rows }
 }

@@ -145,7 +145,7 @@ module _ (new : List Row) where
                 rows_put = two_sets out 0 g.rows_done (X ++ Y) g.rows_put (omega (arith, g.rows_long)) both_put;
               }
 
-    pub lengthening_end : length nodes ≤ i → Lengthens (lengthened new f) out nodes out₁ to
+    pub lengthening_end : length nodes < i + node_width → Lengthens (lengthened new f) out nodes out₁ to
     unfolding flat_nodes flat_rows
     lengthening_end l = go g.to_come coming g.nodes_now g.nodes_all g.rows_all rows_come
       where

@@ -31,17 +31,15 @@ pub fn lengthen(
     requires { AskLengthened members.now first count type_id nodes.old rows.now out.old }
     ensures { (f : Forest) → Stores nodes.old rows.now f → Lengthens (lengthened (special_rows members.now first count type_id) f) out.old nodes.new out.new result }
 {
-    let mut i: usize = 0;
     let mut from: usize = 0;
     let mut to: usize = 0;
-    // A while: the next node is one node's width on, and a range's step is 1.
-    while i < nodes.len() {
+    for n in 0..nodes.len() / Encoding::NODE_WIDTH {
+        let i = n * Encoding::NODE_WIDTH;
         let size = nodes[i];
         let own = size as usize * Encoding::ROW_WIDTH;
         lists::copy(rows, from, own, out, to);
         write_specials(members, first, count, type_id, out, to + own);
         nodes[i] = size + count as u32;
-        i += Encoding::NODE_WIDTH;
         from += own;
         to += own + count * Encoding::ROW_WIDTH;
     }
