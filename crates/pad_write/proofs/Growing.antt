@@ -169,7 +169,7 @@ module _ (target : ℕ) (token : PadToken) (d : Direction) where
               rows_put = two_sets out' 0 g.rows_done R g.rows_put (omega (arith, g.rows_long)) p';
             }
 
-    pub growing_end : length nodes ≤ i → Filled (padded target token d f) out out' out₁ out₁'
+    pub growing_end : length nodes < i + node_width → Filled (padded target token d f) out out' out₁ out₁'
     unfolding flat_nodes flat_rows
     growing_end l = go g.to_come g.coming g.nodes_all g.rows_all
       where

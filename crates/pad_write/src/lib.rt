@@ -25,17 +25,15 @@ pub fn write_padded(
         (padded target token direction f) out_nodes.old out_rows.old
         out_nodes.new out_rows.new }
 {
-    let mut i: usize = 0;
     let mut from: usize = 0;
     let mut to: usize = 0;
-    // A while: where the next rows stand, the nodes say.
-    while i < nodes.len() {
+    for n in 0..nodes.len() / Encoding::NODE_WIDTH {
+        let i = n * Encoding::NODE_WIDTH;
         let size = nodes[i];
         let count = size.max(target);
         let new = count - size;
         pad_nodes::write_node(nodes, i, count, new, direction, out_nodes);
         pad_rows::write_rows(rows, from, size, new, token, direction, out_rows, to);
-        i += Encoding::NODE_WIDTH;
         from += size as usize * Encoding::ROW_WIDTH;
         to += count as usize * Encoding::ROW_WIDTH;
     }
