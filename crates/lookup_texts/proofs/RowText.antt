@@ -2,13 +2,12 @@
 -- Assumes nothing.
 use mathlib.Core.Path.{◌≡◌, refl, sym, ap, ◌∙◌, subst}
 use mathlib.Core.Bool.{Bool, true, false, cond}
-use Prim.Native.Nat.{ℕ, ◌+◌, ◌-◌, ◌*◌, ◌≤◌, ◌<◌}
-use native.Mathlib.Nat.{add-sub_cancel_left}
+use Prim.Native.Nat.{ℕ, ◌+◌, ◌*◌, ◌≤◌, ◌<◌}
 use native.Mathlib.Omega.{arith}
 use mathlib.Core.List.{List, []}
 use lib.Dec.{leb}
-use lib.ListN.{length, get_or, take, drop, length-take, length-drop}
-use borrow.Author.Tests.{le-leb, lt-leb, leb-true, eq-eqb, ne_eqb}
+use lib.ListN.{length, get_or, drop, length-take, length-drop}
+use borrow.Author.Tests.{le-leb, lt-leb, leb-true}
 use Rattle.record.specs.Tree.{Row, Forest}
 use Rattle.record.specs.Flat.{row_width, row_numbers, row_at}
 use Rattle.record.specs.WellFormed.{Stores}
@@ -110,16 +109,7 @@ found_length r k tokens added {p} {a} {n} e =
 
 -- ---- The part of a pool
 
-pub pool_tokens : {p : ℕ} (tokens added : List ℕ) → p ≡ 0 → pool_of p tokens added ≡ tokens
-pool_tokens {p} tokens added e = rw (eq-eqb p 0 e)
-
-pub pool_added : {p : ℕ} (tokens added : List ℕ) → (p ≡ 0 → ⊥) → pool_of p tokens added ≡ added
-pool_added {p} tokens added e = rw (ne_eqb p 0 e)
-
 -- a text is found, and `l` is its pool
 module _ (r : Reading) (k : ℕ) (tokens added : List ℕ) {p a n from size : ℕ} {l : List ℕ} (e : text_answer r k tokens added ≡ found_text p a n) (el : pool_of p tokens added ≡ l) (ea : from ≡ a) (en : size ≡ n) where
   pub part_fits : from + size ≤ length l
   part_fits = rw (ea, en, ← el) (found_inside r k tokens added e)
-
-  pub part_is : take (from + size - from) (drop from l) ≡ part_of (text_answer r k tokens added) tokens added
-  part_is = rw (e, add-sub_cancel_left, ea, en, el)

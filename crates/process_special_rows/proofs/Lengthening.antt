@@ -1,14 +1,14 @@
 -- The loop that lengthens every node in its place: what is done and what is to come, lengthened, make up the whole.
 -- Assumes nothing.
-use mathlib.Core.Path.{◌≡◌, refl, sym, ap, ap₂, ◌∙◌}
+use mathlib.Core.Path.{◌≡◌, sym, ap, ap₂, ◌∙◌}
 use Prim.Native.Nat.{ℕ, ◌+◌, ◌*◌, ◌≤◌, ◌<◌}
 use native.Mathlib.Omega.{arith}
-use mathlib.Core.List.{List, [], ◌∷◌, ◌++◌, flat_map, append_assoc, append-nil}
+use mathlib.Core.List.{List, ◌∷◌, ◌++◌, flat_map, append_assoc, append-nil}
 use lib.ListN.{length, get_or, take, drop, set, length-append}
 use lib.Seq.{sets, length-sets, set_at, drop_at}
 use Rattle.record.specs.Tree.{Row, Range, Forest, none, node, tops}
 use Rattle.record.specs.Flat.{row_width, node_width, row_numbers, range_numbers, flat_nodes, flat_rows}
-use Rattle.record.specs.WellFormed.{Fine, Stores, rows_in, most_rows}
+use Rattle.record.specs.WellFormed.{Fine, rows_in, most_rows}
 use Rattle.record.proofs.Flat.{length_numbers, row_stored, range_stored, node_width_lem, length_rows}
 use Rattle.record.proofs.Walk.{numbers_append}
 use Rattle.record.specs.Passing.{followed, NodesToCome, RowsToCome}
@@ -31,22 +31,6 @@ module _ (new : List Row) where
     pub rows_all : flat_rows (lengthened new f) ≡ rows_done ++ flat_rows (lengthened new to_come)
     pub rows_long : length rows_done ≡ to
     pub rows_put : out₁ ≡ sets out 0 rows_done
-
-  pub lengthening_start : {nodes rows : List ℕ} (out : List ℕ) {f : Forest} → Stores nodes rows f → Lengthening rows out f nodes out 0 0 0
-  lengthening_start out {f} s =
-      record {
-        to_come = f;
-        fine = s.well.fine;
-        nodes_done = [];
-        nodes_now = sym s.nodes_are;
-        nodes_all = refl;
-        nodes_long = refl;
-        coming_rows = record { is = sym s.rows_are; on = omega arith };
-        rows_done = [];
-        rows_all = refl;
-        rows_long = refl;
-        rows_put = refl;
-      }
 
   -- ---- The first node's numbers, and then the others'
 
