@@ -46,10 +46,8 @@ pub extern "C" fn noddrefyr_process<'a>(
     let answer = process::process(
         nodes,
         rows,
-        single_set,
-        single,
-        pair_set,
-        pair,
+        single_set.then_some(single),
+        pair_set.then_some(pair),
         entries,
         members,
         added,

@@ -33,9 +33,9 @@ pub extern "C" fn noddrefyr_validate(
         entries.now members.now added.now))
         result fault.new }
 {
-    let found = template_validate::validate(
-        single_set, single, pair_set, pair, entries, members, added,
-    );
+    let single = single_set.then_some(single);
+    let pair = pair_set.then_some(pair);
+    let found = template_validate::validate(single, pair, entries, members, added);
     match found {
         Ok(()) => 0,
         Err(Invalid::Refused(k)) => k.number(),
@@ -85,7 +85,8 @@ pub extern "C" fn noddrefyr_count_added(
         (which_of is_pair) entries.now members.now added.now) }
 {
     let which = which_of(is_pair);
-    let found = template_validate::count_added(set, text, which, entries, members, added);
+    let text = set.then_some(text);
+    let found = template_validate::count_added(text, which, entries, members, added);
     match found {
         Err(k) => c_crossing::fault_told(k, fault),
         Ok(sum) => {

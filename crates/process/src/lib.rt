@@ -1,6 +1,8 @@
 // `process` with a template (document 01, module 9): encodings put together as a template's pieces say.
 #![tactic(auto)]
 
+ghost use Rattle.std.specs.Prelude.{is_some};
+ghost use Rattle.template_text.specs.Used.{lent_text};
 ghost use Rattle.record.specs.Working.{WritesWith};
 ghost use Rattle.process_check.specs.Process.{process_outcome};
 
@@ -16,10 +18,8 @@ use template_text::Template;
 pub fn process<'a>(
     nodes: &[u32],
     rows: &[u32],
-    single_set: bool,
-    single: &'a [u8],
-    pair_set: bool,
-    pair: &'a [u8],
+    single: Option<&'a [u8]>,
+    pair: Option<&'a [u8]>,
     entries: &[u32],
     members: &[u32],
     added: &[u8],
@@ -30,9 +30,10 @@ pub fn process<'a>(
     working_rows: &mut [u32],
 ) -> Result<Written, Refusal>
     ensures { WritesWith
-        (process_outcome nodes.now rows.now single_set single.now pair_set pair.now
-        entries.now members.now added.now add_special_tokens out_nodes.old
-        out_rows.old working_nodes.old working_rows.old) result out_nodes.old
+        (process_outcome nodes.now rows.now (is_some single.entry) (lent_text single.entry)
+        (is_some pair.entry) (lent_text pair.entry) entries.now members.now added.now
+        add_special_tokens out_nodes.old out_rows.old working_nodes.old
+        working_rows.old) result out_nodes.old
         out_rows.old working_nodes.old working_rows.old out_nodes.new
         out_rows.new working_nodes.new working_rows.new }
 {
@@ -40,9 +41,7 @@ pub fn process<'a>(
     let Take { second, count } = process_check::decide(
         nodes,
         rows,
-        single_set,
         single,
-        pair_set,
         pair,
         entries,
         members,

@@ -1,3 +1,4 @@
+pub mod Lent
 pub mod Checking
 pub mod NotSix
 pub mod Deciding

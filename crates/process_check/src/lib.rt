@@ -1,8 +1,9 @@
 // Whether `process` can be done, and by which steps: all that is decided before anything is written (document 01, module 9).
 #![tactic(auto)]
 
-ghost use Rattle.std.specs.Prelude.{◌≡◌, ◌*◌, length};
+ghost use Rattle.std.specs.Prelude.{is_some, ◌≡◌, ◌*◌, length};
 ghost use Rattle.template_text.specs.Template.{most_parts, piece_width};
+ghost use Rattle.template_text.specs.Used.{lent_text};
 ghost use Rattle.process_check.specs.Promises.{DecidesProcess};
 ghost use Rattle.process_check.specs.Process.{process_outcome};
 
@@ -21,10 +22,8 @@ pub struct Take {
 pub fn decide<'a>(
     nodes: &[u32],
     rows: &[u32],
-    single_set: bool,
-    single: &'a [u8],
-    pair_set: bool,
-    pair: &'a [u8],
+    single: Option<&'a [u8]>,
+    pair: Option<&'a [u8]>,
     entries: &[u32],
     members: &[u32],
     added: &[u8],
@@ -33,8 +32,9 @@ pub fn decide<'a>(
 ) -> Result<Take, Refusal>
     requires { length steps.old ≡ most_parts * piece_width }
     ensures { DecidesProcess
-        (process_outcome nodes.now rows.now single_set single.now pair_set pair.now
-        entries.now members.now added.now add_special_tokens)
+        (process_outcome nodes.now rows.now (is_some single.entry) (lent_text single.entry)
+        (is_some pair.entry) (lent_text pair.entry) entries.now members.now added.now
+        add_special_tokens)
         nodes.now rows.now entries.now members.now steps.new result }
 {
     if !record_check::is_one_or_two(nodes, rows) {
@@ -43,15 +43,7 @@ pub fn decide<'a>(
     template_table::check_table(entries, members, added)?;
     let second = process_template::second_spot(nodes, rows);
     let has_second = second.node < nodes.len();
-    let text = process_template::text_for(
-        has_second,
-        single_set,
-        single,
-        b"$0",
-        pair_set,
-        pair,
-        b"$A:0 $B:1",
-    );
+    let text = process_template::text_for(has_second, single, b"$0", pair, b"$A:0 $B:1");
     process_template::check_template(text, has_second, add_special_tokens, entries, added)?;
     let count = process_plan::plan(text, add_special_tokens, entries, added, steps)?;
     Ok(Take { second, count })

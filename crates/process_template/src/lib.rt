@@ -2,7 +2,8 @@
 // 01, module 9).
 #![tactic(auto)]
 
-ghost use Rattle.std.specs.Prelude.{not, ◌&&◌, cond, ◌≡◌};
+ghost use Rattle.std.specs.Prelude.{not, ◌&&◌, cond, is_some, ◌≡◌};
+ghost use Rattle.template_text.specs.Used.{lent_text};
 ghost use Rattle.template_find.specs.Promises.{IdsInside};
 ghost use Rattle.process_template.specs.Promises.{OneOrTwoStored, SecondAt, ChecksTemplate};
 
@@ -12,19 +13,20 @@ use template_walk::Named;
 // The text of the template that is used, which is the pair's where there is a second encoding.
 pub fn text_for<'a>(
     second: bool,
-    single_set: bool,
-    single: &'a [u8],
+    single: Option<&'a [u8]>,
     unset_single: &'a [u8],
-    pair_set: bool,
-    pair: &'a [u8],
+    pair: Option<&'a [u8]>,
     unset_pair: &'a [u8],
 ) -> &'a [u8]
-    ensures { result.now ≡ cond second (cond pair_set pair.now unset_pair.now)
-        (cond single_set single.now unset_single.now) }
+    ensures { result.now ≡ cond second (cond (is_some pair.entry) (lent_text pair.entry)
+        unset_pair.now) (cond (is_some single.entry) (lent_text single.entry)
+        unset_single.now) }
 {
-    let single_text = template_text::text_used(single_set, single, unset_single);
-    let pair_text = template_text::text_used(pair_set, pair, unset_pair);
-    template_text::text_used(second, pair_text, single_text)
+    if second {
+        template_text::text_used(pair, unset_pair)
+    } else {
+        template_text::text_used(single, unset_single)
+    }
 }
 
 // Where the second encoding stands, or where it would.

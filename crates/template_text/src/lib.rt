@@ -1,10 +1,11 @@
 // Reading a template text, and the text that is used where none is set (document 01, modules 7 and 8).
 #![tactic(auto)]
 
-ghost use Rattle.std.specs.Prelude.{cond, ◌≡◌, ◌≤◌, length};
+ghost use Rattle.std.specs.Prelude.{cond, is_some, ◌≡◌, ◌≤◌, length};
 ghost use Rattle.template_text.specs.Template.{read_template, short, template_of};
 ghost use Rattle.template_text.specs.Comes.{comes_at, fault_in};
 ghost use Rattle.template_text.specs.Promises.{RoomFor, Gathered, SmallId, told_numbers};
+ghost use Rattle.template_text.specs.Used.{lent_text};
 
 use record::{Fault, Refusal, Why};
 use template_pieces::{Kind, Name, Piece};
@@ -132,12 +133,9 @@ pub enum Which {
     Pair,
 }
 
-// The text of a template that is set, or the text for an unset one.
-pub fn text_used<'a>(set: bool, text: &'a [u8], unset: &'a [u8]) -> &'a [u8]
-    ensures { result.now ≡ cond set text.now unset.now }
+// The text of a template, or the text for an unset one. An empty text is no unset one.
+pub fn text_used<'a>(text: Option<&'a [u8]>, unset: &'a [u8]) -> &'a [u8]
+    ensures { result.now ≡ cond (is_some text.entry) (lent_text text.entry) unset.now }
 {
-    if set {
-        return text;
-    }
-    unset
+    text.unwrap_or(unset)
 }

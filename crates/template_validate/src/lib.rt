@@ -1,7 +1,8 @@
 // Checking a pair of templates against a special table, and counting the tokens that a template adds (document 01, module 8).
 #![tactic(auto)]
 
-ghost use Rattle.std.specs.Prelude.{◌≡◌};
+ghost use Rattle.std.specs.Prelude.{◌≡◌, is_some};
+ghost use Rattle.template_text.specs.Used.{lent_text};
 ghost use Rattle.template_validate.specs.Validation.{refused_in, of_validity, validate_answer, count_answer};
 
 use record::{Fault, Refusal};
@@ -15,25 +16,23 @@ pub enum Invalid {
 }
 
 // Whether two templates can be used with a table. Refused with 15, 12, then 8 and 19 to 21 for the single template, 8 and 19 to 21
-// for the pair's, 9 and 10. A template that is not set has the text of an unset one; an empty text that is set is no unset one.
+// for the pair's, 9 and 10. A template that is not there is an unset one; an empty text is none.
 pub fn validate(
-    single_set: bool,
-    single: &[u8],
-    pair_set: bool,
-    pair: &[u8],
+    single: Option<&[u8]>,
+    pair: Option<&[u8]>,
     entries: &[u32],
     members: &[u32],
     added: &[u8],
 ) -> Result<(), Invalid>
-    ensures { result ≡ validate_answer single_set single.now pair_set pair.now entries.now
-        members.now added.now }
+    ensures { result ≡ validate_answer (is_some single.entry) (lent_text single.entry)
+        (is_some pair.entry) (lent_text pair.entry) entries.now members.now added.now }
 {
     let table = template_table::check_table(entries, members, added);
     if let Err(why) = table {
         return Err(Invalid::Refused(why));
     }
-    let single_text = template_text::text_used(single_set, single, b"$0");
-    let pair_text = template_text::text_used(pair_set, pair, b"$A:0 $B:1");
+    let single_text = template_text::text_used(single, b"$0");
+    let pair_text = template_text::text_used(pair, b"$A:0 $B:1");
     let in_single = template_walk::sequences_in(single_text);
     if let Err(why) = in_single {
         return Err(refused_in(Which::Single, why));
@@ -76,25 +75,24 @@ fn checked(known: Result<(), Refusal>) -> Result<(), Invalid>
 // How many tokens a template adds: the ids of its special pieces, where unknown ones add none. Refused with 15, 12, 8, then
 // with 19 to 21 for its first part at fault.
 pub fn count_added(
-    set: bool,
-    text: &[u8],
+    text: Option<&[u8]>,
     which: Which,
     entries: &[u32],
     members: &[u32],
     added: &[u8],
 ) -> Result<u64, Refusal>
-    ensures { result ≡ count_answer set text.now which entries.now members.now
-        added.now }
+    ensures { result ≡ count_answer (is_some text.entry) (lent_text text.entry) which entries.now
+        members.now added.now }
 {
     template_table::check_table(entries, members, added)?;
     match which {
         Which::Single => template_walk::count_pieces(
-            template_text::text_used(set, text, b"$0"),
+            template_text::text_used(text, b"$0"),
             entries,
             added,
         ),
         Which::Pair => template_walk::count_pieces(
-            template_text::text_used(set, text, b"$A:0 $B:1"),
+            template_text::text_used(text, b"$A:0 $B:1"),
             entries,
             added,
         ),

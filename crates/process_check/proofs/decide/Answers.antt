@@ -1,7 +1,8 @@
 -- `decide` checks, chooses the template, and plans its steps. Assumes nothing.
 use mathlib.Core.Path.{◌≡◌, sym, ◌∙◌}
 use borrow.Author.Rules.{rules}
-use Rattle.std.specs.Prelude.{Err}
+use Rattle.std.specs.Prelude.{Err, is_some}
+use Rattle.template_text.specs.Used.{lent_text}
 use Rattle.record.proofs.OneOrTwo.{one_or_two_there}
 use Rattle.template_table.proofs.Table.{answer_sound, answer_refused}
 use Rattle.process_template.proofs.Inputs.{second_told}
@@ -36,7 +37,7 @@ returns-in_err-check_template c =
     let t = one_or_two_there c.args.nodes.now c.args.rows.now (sym c.is_one_or_two.ensures ∙ c.if-not-is_one_or_two.false) in
     let s = answer_sound _ (sym c.check_table.ensures ∙ c.in_ok-check_table.was) in
     let inputs = c.second_spot-second.ensures t.0 t.1 t.2 in
-    rw same (decide_unusable _ _ _ t.1 t.2 _ s.1 (text_told c.args.single_set c.args.single.now c.args.pair_set c.args.pair.now t.1 c.text_for-text.ensures (second_told t.1 inputs)) (tested_so c.args.members.now inputs s.1 c.check_template.ensures c.in_err-check_template.was))
+    rw same (decide_unusable _ _ _ t.1 t.2 _ s.1 (text_told (is_some c.args.single) (lent_text c.args.single) (is_some c.args.pair) (lent_text c.args.pair) t.1 c.text_for-text.ensures (second_told t.1 inputs)) (tested_so c.args.members.now inputs s.1 c.check_template.ensures c.in_err-check_template.was))
 
 pub plan-requires : goal.plan-requires
 plan-requires c =
@@ -60,4 +61,4 @@ returns c =
     let s = answer_sound _ (sym c.check_table.ensures ∙ c.in_ok-check_table.was) in
     let inputs = c.second_spot-second.ensures t.0 t.1 t.2 in
     let u = tested_so c.args.members.now inputs s.1 c.check_template.ensures c.in_ok-check_template.was in
-    decide_take _ _ _ t.1 t.2 _ s.1 (text_told c.args.single_set c.args.single.now c.args.pair_set c.args.pair.now t.1 c.text_for-text.ensures (second_told t.1 inputs)) u _ _ _ s.1 c.plan.ensures inputs c.in_ok-count.was
+    decide_take _ _ _ t.1 t.2 _ s.1 (text_told (is_some c.args.single) (lent_text c.args.single) (is_some c.args.pair) (lent_text c.args.pair) t.1 c.text_for-text.ensures (second_told t.1 inputs)) u _ _ _ s.1 c.plan.ensures inputs c.in_ok-count.was

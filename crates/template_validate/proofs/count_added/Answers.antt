@@ -4,7 +4,8 @@ use Rattle.template_validate.proofs.Deciding.{sound_inside, count_table, count_u
 use Rattle.template_entries.specs.Table.{read_table}
 use Rattle.template_table.specs.Check.{table_answer}
 use borrow.Author.Rules.{rules}
-use Rattle.std.specs.Prelude.{Ok, Err}
+use Rattle.std.specs.Prelude.{Ok, Err, is_some}
+use Rattle.template_text.specs.Used.{lent_text}
 use Rattle.template_validate.proofs.count_added.Goals as goal
 
 pub returns-in_err-check_table : goal.returns-in_err-check_table
@@ -25,9 +26,9 @@ count_pieces-requires-in-Pair c =
 pub returns-in-Single : goal.returns-in-Single
 returns-in-Single c =
     let is_sound : table_answer (read_table c.args.entries.now c.args.members.now c.args.added.now) ≡ Ok tt = sym c.check_table.ensures ∙ c.in_ok-check_table.was in
-    count_used _ _ _ c.args.set c.args.text.now is_sound c.text_used.ensures c.in-Single.is c.count_pieces.ensures
+    count_used _ _ _ (is_some c.args.text) (lent_text c.args.text) is_sound c.text_used.ensures c.in-Single.is c.count_pieces.ensures
 
 pub returns-in-Pair : goal.returns-in-Pair
 returns-in-Pair c =
     let is_sound : table_answer (read_table c.args.entries.now c.args.members.now c.args.added.now) ≡ Ok tt = sym c.check_table.ensures ∙ c.in_ok-check_table.was in
-    count_used _ _ _ c.args.set c.args.text.now is_sound c.text_used-in-Pair.ensures c.in-Pair.is c.count_pieces-in-Pair.ensures
+    count_used _ _ _ (is_some c.args.text) (lent_text c.args.text) is_sound c.text_used-in-Pair.ensures c.in-Pair.is c.count_pieces-in-Pair.ensures
