@@ -69,7 +69,7 @@ pub fn text_part<'a>(
         (text_answer (read nodes.now rows.now) row.0 tokens.now added.now)
         tokens.now added.now }
 {
-    // Three arms: after a `let .. else` it is not known that there is no text, and the proof did not close.
+    // Three arms: after a `let .. else` a proof does not know that there is no text.
     match text(nodes, rows, row, tokens, added) {
         Ok(Some(found)) => {
             let from = found.start as usize;

@@ -1,4 +1,4 @@
-// The cases of a replay program: what the lines of its input hold.
+// The cases of a replay program, what the lines of its input hold, and the loop that replays them.
 //
 // A line that starts with `#` is a comment, and an empty line is skipped. Any other line is one case: decimal numbers with
 // single spaces between them. They are the operation's number, two lists (the nodes and the rows of a batch, the entries and

@@ -16,7 +16,7 @@ pub enum Invalid {
 }
 
 // Whether two templates can be used with a table. Refused with 15, 12, then 8 and 19 to 21 for the single template, 8 and 19 to 21
-// for the pair's, 9 and 10. A template that is not there is an unset one; an empty text is none.
+// for the pair's, 9 and 10. `None` is an unset template; an empty text is a set one.
 pub fn validate(
     single: Option<&[u8]>,
     pair: Option<&[u8]>,

@@ -1,4 +1,4 @@
--- The lengths of a pair and the cut to them, in turn, are document 01's pair cut. Assumes maybe.none.
+-- The lengths of a pair and the cut to them, in turn, are document 01's pair cut. Assumes nothing.
 use mathlib.Core.Path.{◌≡◌, refl}
 use mathlib.Core.Option as maybe
 use Prim.Native.Nat.{ℕ}

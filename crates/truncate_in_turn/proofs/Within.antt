@@ -1,5 +1,5 @@
 -- Together the encodings of the result have at most the max length of rows.
--- Assumes maybe.none.
+-- Assumes nothing.
 use mathlib.Core.Path.{◌≡◌, refl, ap}
 use mathlib.Core.Bool.{Bool, true, false, ◌||◌, cond}
 use mathlib.Core.Option as maybe

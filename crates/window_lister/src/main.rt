@@ -100,7 +100,7 @@ fn list_windows(
     Some(place)
 }
 
-// The place behind what waits, once there is room for a line after it.
+// The place behind what waits, once there is room for a line after it; none if a write failed.
 fn make_room(rt: &(impl Print + Eprint), out: &[u8], waiting: usize) -> Option<usize>
     requires { ReadyOutput out.now waiting }
     ensures { IfSome result (λ bytes. LineRoom out.now bytes) }
