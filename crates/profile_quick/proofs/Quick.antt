@@ -6,16 +6,14 @@ use native.Mathlib.Omega.{arith}
 use mathlib.Core.List.{List}
 use lib.Dec.{eqb, ltb}
 use lib.ListN.{drop}
+use lib.Seq.{get_or-drop}
 use borrow.Author.Tests.{ltb-false, eqb-false}
 use Rattle.record.specs.Flat.{row_at}
 use Rattle.lookup_search.specs.Promises.{at_word_mark, at_word, at_offset_start, at_offset_end}
 use Rattle.profile_trees.specs.Promises.{no_rule}
 use Rattle.profile_row.specs.Promises.{lowest_rule}
 use Rattle.profile_row.proofs.Lowest.{column, at_special, at_attention, MasksFine, masks_fine, rule_none}
-
--- one of the rules on masks is broken: one is above 1, or both are 0
-abbrev pub mask_rule : ℕ → ℕ → Bool
-mask_rule special attention = ltb 1 special || (ltb 1 attention || (eqb attention 0 && eqb special 0))
+use Rattle.profile_quick.specs.Promises.{mask_rule, quick_rule}
 
 one_left : (k : ℕ) → (k ≡ 0 → ⊥) → k ≤ 1 → k ≡ 1
 one_left zero n h = absurd (n refl)
@@ -41,6 +39,12 @@ neither true b e = absurd (true≢false e)
 neither false b e = (refl, e)
 
 module _ (words : Bool) (last : ℕ) (rows : List ℕ) (at : ℕ) where
+  -- the tests, over the numbers of the row at a place
+  pub quick_at : ((mask_rule (column rows at at_special) (column rows at at_attention) || ltb (column rows at at_offset_end) (column rows at at_offset_start)) || (words && (eqb (column rows at at_word_mark) 1 && ltb (column rows at at_word) last)))
+      ≡ quick_rule words last (row_at (drop at rows))
+  unfolding row_at
+  quick_at = simp get_or-drop
+
   pub quick_none : ((mask_rule (column rows at at_special) (column rows at at_attention) || ltb (column rows at at_offset_end) (column rows at at_offset_start)) || (words && (eqb (column rows at at_word_mark) 1 && ltb (column rows at at_word) last))) ≡ false
       → lowest_rule words last (row_at (drop at rows)) ≡ no_rule
   quick_none none =

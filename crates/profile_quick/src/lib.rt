@@ -2,17 +2,19 @@
 #![tactic(auto)]
 
 ghost use Rattle.std.specs.Prelude.{false, ◌≡◌, ◌+◌, ◌≤◌, length, drop};
+ghost use Rattle.profile_quick.specs.Promises.{quick_rule};
 ghost use Rattle.profile_row.specs.Promises.{lowest_rule};
 ghost use Rattle.profile_trees.specs.Promises.{no_rule};
 ghost use Rattle.record.specs.Flat.{row_width, row_at};
 
 use record::Column;
 
-// No only if the row at a place breaks no rule on rows. Tests joined by | and &, which make no branches: masks and marks change from
-// row to row.
+// Whether the row at a place breaks a rule on rows: no only if it breaks none, and yes only where one of the four tests says so. Tests
+// joined by | and &, which make no branches: masks and marks change from row to row.
 pub fn row_wrong(rows: &[u32], at: usize, words: bool, last: u32) -> bool
     requires { at + row_width ≤ length rows.now }
-    ensures { result ≡ false → lowest_rule words last (row_at (drop at rows.now)) ≡ no_rule }
+    ensures told { result ≡ quick_rule words last (row_at (drop at rows.now)) }
+    ensures none { result ≡ false → lowest_rule words last (row_at (drop at rows.now)) ≡ no_rule }
 {
     let special = rows[at + Column::SPECIAL];
     let attention = rows[at + Column::ATTENTION];

@@ -25,7 +25,7 @@ loop-row-preserved c =
       | then-row_wrong+else-rule-found w ↦
           w.found-is ∙ lower_left rule c.args.node l.row l.found (omega (arith, w.row_rule-rule.ensures, w.if-rule-found.false))
       | else-row_wrong w ↦
-          let none : rule ≡ no_rule = c.row_wrong.ensures w.if-row_wrong.false in
+          let none : rule ≡ no_rule = c.row_wrong.ensures.none w.if-row_wrong.false in
           w.found-is ∙ lower_left rule c.args.node l.row l.found (omega (arith, none, l.invariant.few))
     ] in
     checking_next l.invariant c.loop-row-test.true turned c.word_after-last.ensures
