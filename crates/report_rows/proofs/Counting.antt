@@ -96,6 +96,11 @@ module _ {rows : List ℕ} {padding special rest i : ℕ} (k : Counting rows pad
   counting_end count e = λ j. record { padding = (k.padding_is ∙ ap (λ (n : ℕ). how_many is_padding (first_rows rows n)) e) j; special = (k.special_is ∙ ap (λ (n : ℕ). how_many is_special (first_rows rows n)) e) j; rest = (k.rest_is ∙ ap (λ (n : ℕ). how_many is_rest (first_rows rows n)) e) j }
 
 -- one of a kind at most
-pub one_few : (b : Bool) → from_bool b ≤ 1
-one_few true = omega arith
-one_few false = omega arith
+pub one_few : (b : Bool) {x : ℕ} → x ≡ one b → x ≤ 1
+unfolding one
+one_few true e = omega arith
+one_few false e = omega arith
+
+-- so a test adds one at most
+pub told_few : (b : Bool) → from_bool b ≤ 1
+told_few b = one_few b (told b)
