@@ -2,7 +2,7 @@
 -- special piece lies in the text.
 -- Assumes nothing.
 use mathlib.Core.Path.{◌≡◌, refl, ap, ◌∙◌}
-use Prim.Native.Nat.{ℕ, zero, suc, ◌+◌, ◌*◌, ◌<◌}
+use Prim.Native.Nat.{ℕ, zero, suc, ◌+◌, ◌*◌, ◌≤◌, ◌<◌}
 use native.Mathlib.Omega.{arith}
 use mathlib.Core.List.{List, [], ◌∷◌, ◌++◌, flat_map, append_assoc}
 use lib.ListN.{length, get_or, drop, replicate, get_or-append}
@@ -66,6 +66,21 @@ four (special s id t) = refl
 pub record PieceAt (text : List ℕ) (kind type start size : ℕ) (piece : Piece) : Type 0 where
   pub numbers : piece_numbers piece ≡ kind ∷ type ∷ start ∷ size ∷ []
   pub lies_there : Lies text piece
+
+-- a piece's id does not pass the text, by its numbers
+pub piece_within : {text : List ℕ} {kind type start size : ℕ} (piece : Piece) → PieceAt text kind type start size piece → start + size ≤ length text
+piece_within {text} {kind} {type} {start} {size} (sequence_a t) p =
+    let s : 0 ≡ start = ap (λ (l : List ℕ). get_or l 2 0) p.numbers in
+    let n : 0 ≡ size = ap (λ (l : List ℕ). get_or l 3 0) p.numbers in
+    omega arith
+piece_within {text} {kind} {type} {start} {size} (sequence_b t) p =
+    let s : 0 ≡ start = ap (λ (l : List ℕ). get_or l 2 0) p.numbers in
+    let n : 0 ≡ size = ap (λ (l : List ℕ). get_or l 3 0) p.numbers in
+    omega arith
+piece_within {text} {kind} {type} {start} {size} (special a id t) p =
+    let s : a ≡ start = ap (λ (l : List ℕ). get_or l 2 0) p.numbers in
+    let n : length id ≡ size = ap (λ (l : List ℕ). get_or l 3 0) p.numbers in
+    omega (arith, p.lies_there.0)
 
 module _ (text : List ℕ) {ps : List Piece} (e : read_template text ≡ reads ps) (i : ℕ) (d : Piece) (h : i < length ps) where
   -- number j of piece i, as the answer has it
