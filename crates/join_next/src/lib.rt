@@ -22,9 +22,11 @@ pub fn then_left(
         out_rows.new result }
 {
     let Written { nodes, rows } = first?;
+    let node_end = nodes * Encoding::NODE_WIDTH;
+    let row_end = rows * Encoding::ROW_WIDTH;
     join::merge_with(
-        &ab_nodes[..nodes * Encoding::NODE_WIDTH],
-        &ab_rows[..rows * Encoding::ROW_WIDTH],
+        &ab_nodes[..node_end],
+        &ab_rows[..row_end],
         c_nodes,
         c_rows,
         growing,
@@ -50,11 +52,13 @@ pub fn then_right(
         out_rows.new result }
 {
     let Written { nodes, rows } = first?;
+    let node_end = nodes * Encoding::NODE_WIDTH;
+    let row_end = rows * Encoding::ROW_WIDTH;
     join::merge_with(
         a_nodes,
         a_rows,
-        &bc_nodes[..nodes * Encoding::NODE_WIDTH],
-        &bc_rows[..rows * Encoding::ROW_WIDTH],
+        &bc_nodes[..node_end],
+        &bc_rows[..row_end],
         growing,
         out_nodes,
         out_rows,

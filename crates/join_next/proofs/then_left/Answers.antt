@@ -10,14 +10,14 @@ use Rattle.join_next.proofs.then_left.Goals as goal
 pub returns-in_err-nodes : goal.returns-in_err-nodes
 returns-in_err-nodes c = let same : c.from_residual.result ≡ Err c.in_err-nodes.field-0.0 = search rules in rw same (left_stopped _ c.in_err-nodes.was)
 
-pub overflow_mul-nodes : goal.overflow_mul-nodes
-overflow_mul-nodes c = let w = c.in_ok-nodes.field-0 in omega (arith, c.requires.nodes_stand w.nodes w.rows c.in_ok-nodes.was)
+pub overflow_mul-node_end : goal.overflow_mul-node_end
+overflow_mul-node_end c = let w = c.in_ok-nodes.field-0 in omega (arith, c.requires.nodes_stand w.nodes w.rows c.in_ok-nodes.was)
 
 pub slice_bounds-merge_with-end : goal.slice_bounds-merge_with-end
 slice_bounds-merge_with-end c = let w = c.in_ok-nodes.field-0 in let h = c.requires.nodes_stand w.nodes w.rows c.in_ok-nodes.was in simp length-take (omega arith)
 
-pub overflow_mul-rows : goal.overflow_mul-rows
-overflow_mul-rows c = let w = c.in_ok-nodes.field-0 in omega (arith, c.requires.rows_stand w.nodes w.rows c.in_ok-nodes.was)
+pub overflow_mul-row_end : goal.overflow_mul-row_end
+overflow_mul-row_end c = let w = c.in_ok-nodes.field-0 in omega (arith, c.requires.rows_stand w.nodes w.rows c.in_ok-nodes.was)
 
 pub slice_bounds-merge_with-end-2 : goal.slice_bounds-merge_with-end-2
 slice_bounds-merge_with-end-2 c = let w = c.in_ok-nodes.field-0 in let h = c.requires.rows_stand w.nodes w.rows c.in_ok-nodes.was in simp length-take (omega arith)
