@@ -5,7 +5,7 @@ use Prim.Native.Nat.{ℕ, ◌-◌, ◌≤◌, ◌<◌}
 use borrow.Author.Tests.{lt-ltb, le-ltb}
 use Rattle.std.specs.Prelude.{Ok, Err}
 use Rattle.record.specs.declared.Refusal.TheVariants.{TooShort}
-use Rattle.cut_lengths.specs.Lengths.{both, shorter_share, longer_share, shortened, cut_both}
+use Rattle.cut_lengths.specs.Lengths.{pair_kept, shorter_share, longer_share, shortened, cut_both}
 use Rattle.cut_lengths.specs.declared.Strategy.TheVariants.{LongestFirst}
 use Rattle.cut_lengths.specs.declared.Kept.{Kept}
 
@@ -18,8 +18,8 @@ module _ (target remove : ℕ) (keep : ℕ → Kept) where
 
 -- the shorter of the two is the second, or the first
 module _ (first second most remove : ℕ) where
-  pub longest_second : second < first → cut_both LongestFirst first second most remove ≡ Ok (both (longer_share second most) (shorter_share second most))
+  pub longest_second : second < first → cut_both LongestFirst first second most remove ≡ Ok (pair_kept (longer_share second most) (shorter_share second most))
   longest_second h = rw (lt-ltb second first h)
 
-  pub longest_first : first ≤ second → cut_both LongestFirst first second most remove ≡ Ok (both (shorter_share first most) (longer_share first most))
+  pub longest_first : first ≤ second → cut_both LongestFirst first second most remove ≡ Ok (pair_kept (shorter_share first most) (longer_share first most))
   longest_first h = rw (le-ltb second first h)
