@@ -9,9 +9,9 @@ use Rattle.c_crossing.specs.Crossing.{Crossed, crossed_of}
 
 -- ---- The numbers of each
 
-abbrev pub range_numbers : Result Rows Refusal → Result (List ℕ) Refusal
-range_numbers (Err k) = Err k
-range_numbers (Ok r) = Ok (r.start.0 ∷ r.end.0 ∷ [])
+abbrev pub sequence_range_numbers : Result Rows Refusal → Result (List ℕ) Refusal
+sequence_range_numbers (Err k) = Err k
+sequence_range_numbers (Ok r) = Ok (r.start.0 ∷ r.end.0 ∷ [])
 
 abbrev pub count_numbers : Result ℕ Refusal → Result (List ℕ) Refusal
 count_numbers (Err k) = Err k
@@ -25,7 +25,7 @@ sequence_numbers (Ok (Some s)) = Ok (1 ∷ s.sequence ∷ s.place.0 ∷ [])
 -- ---- In the place of what the lent numbers were
 
 abbrev pub range_crossed : List ℕ → Result Rows Refusal → Crossed
-range_crossed was a = crossed_of was (range_numbers a)
+range_crossed was a = crossed_of was (sequence_range_numbers a)
 
 abbrev pub count_crossed : List ℕ → Result ℕ Refusal → Crossed
 count_crossed was a = crossed_of was (count_numbers a)

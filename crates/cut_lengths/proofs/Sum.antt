@@ -13,7 +13,7 @@ use Rattle.std.specs.Prelude.{Option, Some, None, Result, Ok, Err, unwrap_or}
 use Rattle.record.specs.Refusals.{number_of}
 use Rattle.record.specs.declared.Refusal.{Refusal}
 use Rattle.record.specs.declared.Refusal.TheVariants.{SecondMissing, TooShort}
-use Rattle.cut_lengths.specs.Lengths.{alone, both, shorter_share, longer_share, cut_alone, kept_alone, cut_both, kept_both, kept_lengths, TurnedAway}
+use Rattle.cut_lengths.specs.Lengths.{alone, pair_kept, shorter_share, longer_share, cut_alone, kept_alone, cut_both, kept_both, kept_lengths, TurnedAway}
 use Rattle.cut_lengths.specs.declared.Strategy.{Strategy}
 use Rattle.cut_lengths.specs.declared.Strategy.TheVariants.{LongestFirst, OnlyFirst, OnlySecond}
 use Rattle.cut_lengths.specs.declared.Kept.{Kept}
@@ -96,16 +96,16 @@ both_keep first second most s = go (eqb most 0) refl (leb (first + second) most)
         (either first second)
     cut OnlyFirst p h =
         ⊎_elim
-        (λ (z : first ≤ first + second - most). keeps first (Some second) most (shortened_none first (first + second - most) (λ n. both n second) z) (away (inr refl) p h))
-        (λ (z : first + second - most < first). keeps first (Some second) most (shortened_some first (first + second - most) (λ n. both n second) z) (record { first_no_more = omega arith; second_no_more = omega arith; together = omega arith }))
+        (λ (z : first ≤ first + second - most). keeps first (Some second) most (shortened_none first (first + second - most) (λ n. pair_kept n second) z) (away (inr refl) p h))
+        (λ (z : first + second - most < first). keeps first (Some second) most (shortened_some first (first + second - most) (λ n. pair_kept n second) z) (record { first_no_more = omega arith; second_no_more = omega arith; together = omega arith }))
         (either first (first + second - most))
     cut OnlySecond p h =
         ⊎_elim
-        (λ (z : second ≤ first + second - most). keeps first (Some second) most (shortened_none second (first + second - most) (both first) z) (away (inr refl) p h))
-        (λ (z : first + second - most < second). keeps first (Some second) most (shortened_some second (first + second - most) (both first) z) (record { first_no_more = omega arith; second_no_more = omega arith; together = omega arith }))
+        (λ (z : second ≤ first + second - most). keeps first (Some second) most (shortened_none second (first + second - most) (pair_kept first) z) (away (inr refl) p h))
+        (λ (z : first + second - most < second). keeps first (Some second) most (shortened_some second (first + second - most) (pair_kept first) z) (record { first_no_more = omega arith; second_no_more = omega arith; together = omega arith }))
         (either second (first + second - most))
 
-    go : (a : Bool) → eqb most 0 ≡ a → (b : Bool) → leb (first + second) most ≡ b → (s : Strategy) → KeepsRows first (Some second) most (cond a (Ok (both 0 0)) (cond b (Ok (both first second)) (cut_both s first second most (first + second - most))))
+    go : (a : Bool) → eqb most 0 ≡ a → (b : Bool) → leb (first + second) most ≡ b → (s : Strategy) → KeepsRows first (Some second) most (cond a (Ok (pair_kept 0 0)) (cond b (Ok (pair_kept first second)) (cut_both s first second most (first + second - most))))
     go true z b e s = record { first_no_more = omega arith; second_no_more = omega arith; together = omega (arith, eqb-true most 0 z) }
     go false z true e s = record { first_no_more = omega arith; second_no_more = omega arith; together = omega (arith, leb-true (first + second) most e) }
     go false z false e s = cut s (pos_of_ne-zero (eqb-false most 0 z)) (leb-false (first + second) most e)

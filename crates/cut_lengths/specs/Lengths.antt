@@ -28,8 +28,8 @@ longer_share n most = cond (ltb most (n + left_beside n most)) (most / 2 + most 
 abbrev pub alone : ℕ → Kept
 alone n = record { first = n; second = None }
 
-abbrev pub both : ℕ → ℕ → Kept
-both n m = record { first = n; second = Some m }
+abbrev pub pair_kept : ℕ → ℕ → Kept
+pair_kept n m = record { first = n; second = Some m }
 
 -- "5 if the target is no longer than what must go"; else it keeps the rest
 abbrev pub shortened : ℕ → ℕ → (ℕ → Kept) → Result Kept Refusal
@@ -47,14 +47,14 @@ kept_alone first most strategy = cond (eqb most 0) (Ok (alone 0)) (cond (leb fir
 
 abbrev pub cut_both : Strategy → ℕ → ℕ → ℕ → ℕ → Result Kept Refusal
 cut_both LongestFirst first second most remove =
-    cond (ltb second first) (Ok (both (longer_share second most) (shorter_share second most))) (Ok (both (shorter_share first most) (longer_share first most)))
-cut_both OnlyFirst first second most remove = shortened first remove (λ n. both n second)
-cut_both OnlySecond first second most remove = shortened second remove (both first)
+    cond (ltb second first) (Ok (pair_kept (longer_share second most) (shorter_share second most))) (Ok (pair_kept (shorter_share first most) (longer_share first most)))
+cut_both OnlyFirst first second most remove = shortened first remove (λ n. pair_kept n second)
+cut_both OnlySecond first second most remove = shortened second remove (pair_kept first)
 
 unfoldable pub kept_both : ℕ → ℕ → ℕ → Strategy → Result Kept Refusal
 kept_both first second most strategy =
-    cond (eqb most 0) (Ok (both 0 0))
-    (cond (leb (first + second) most) (Ok (both first second))
+    cond (eqb most 0) (Ok (pair_kept 0 0))
+    (cond (leb (first + second) most) (Ok (pair_kept first second))
     (cut_both strategy first second most (first + second - most)))
 
 abbrev pub kept_lengths : ℕ → Option ℕ → ℕ → Strategy → Result Kept Refusal

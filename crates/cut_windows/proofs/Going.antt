@@ -6,7 +6,7 @@ use native.Mathlib.Numerals.{add-one}
 use native.Mathlib.Omega.{arith}
 use mathlib.Core.List.{List, [], ◌∷◌, ◌++◌, flat_map, map, map-append}
 use lib.ListN.{length, get_or, take, length-append, length-drop}
-use lib.Seq.{length-take-le, take-suc}
+use lib.Seq.{length-take-le, take-suc, take-length}
 use Rattle.record.specs.Tree.{Row, Encoding}
 use Rattle.lists.specs.Lists.{All}
 use Rattle.record.specs.Flat.{row_width, node_width, row_numbers}
@@ -87,3 +87,8 @@ module _ {rows : List ℕ} {j n max stride : ℕ} {d : Direction} {nodes₀ : Li
               (omega (arith, g.row_at, parts_rows_long R (take i bs) inside))
               (p R h (omega (arith, sized.inside))));
         }
+
+  pub going_end : i ≡ length (windows_of n max stride d) → (R : List Row) → RowsAt rows j R → length R ≡ n → Put (map (stretch_of R) (windows_of n max stride d)) nodes₀ a rows₀ b nodes₁ rows₁
+  going_end e R h l =
+      let bs = windows_of n max stride d in
+      subst (λ (cs : List Bounds). Put (map (stretch_of R) cs) nodes₀ a rows₀ b nodes₁ rows₁) (ap (λ (m : ℕ). take m bs) e ∙ take-length bs) (g.put R h l)

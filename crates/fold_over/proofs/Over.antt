@@ -16,9 +16,25 @@ use Rattle.join_trees.proofs.Fine.{join_fine}
 use Rattle.join_view.specs.declared.View.{View}
 use Rattle.join_view.specs.View.{seen}
 use Rattle.join_view.proofs.Seen.{seen_well}
-use Rattle.join_write.specs.Promises.{WritesJoin, Wrote}
+use Rattle.join_write.specs.Promises.{AskJoin, WritesJoin, Wrote}
 use Rattle.fold_over.specs.Promises.{AskStep, WritesStep}
 use Rattle.fold_over.proofs.Writing.{put_copied}
+
+module _ {nodes rows out out' working working' : List ℕ} {p : Spot} {v : View} {g : Bool} (a : AskStep nodes rows p v g out out' working working') where
+  pub step_asks_join : AskJoin out out' (spot 0 0) nodes rows p v g working working' (spot 0 0)
+  step_asks_join =
+      let r = a.working_room in
+      record {
+        S = a.S;
+        P = a.P;
+        here_s = a.here_s;
+        here_p = a.here_p;
+        view_fine = a.view_fine;
+        within = a.within;
+        limits = r.fits;
+        nodes_fit = omega (arith, r.nodes_fit);
+        rows_fit = omega (arith, r.rows_fit);
+      }
 
 -- how far the working store was written
 written_far : {E : Encoding} {working working' working₁ working₁' : List ℕ} {r : Spot} → Wrote (E ∷ []) working working' (spot 0 0) r working₁ working₁' → (r.node ≡ nodes_in (forest (E ∷ [])) * node_width) × (r.row ≡ rows_in (forest (E ∷ [])) * row_width)

@@ -50,7 +50,7 @@ unfolding flat_map
 turning_start f before j count = record { long = refl; changed = λ R h n. refl }
 
 module _ {f : Row → Row} {before : List ℕ} {j count : ℕ} {now : List ℕ} {i : ℕ} (t : Turning f before j count now i) where
-  turning_row : (R : List Row) → RowsAt before j R → length R ≡ count → i < count → (d : Row) → Stretch now (j + i * row_width) (row_numbers (get_or R i d))
+  pub turning_row : (R : List Row) → RowsAt before j R → length R ≡ count → i < count → (d : Row) → Stretch now (j + i * row_width) (row_numbers (get_or R i d))
   turning_row R h n k d =
       rw (t.changed R h n) (next_stands row_stored before j R (map f R) i d (rows_stretch h) (length-map R f) (omega arith))
 

@@ -24,6 +24,13 @@ pub searching_start : {nodes : List ℕ} {f : Forest} → NodesOf nodes f → Se
 searching_start {nodes} {f} h = record { windows = none; after = f; coming = nodes_come h; counts = omega arith; found = omega arith }
 
 module _ {nodes : List ℕ} {i most pending : ℕ} {f : Forest} (s : Searching nodes i most pending f) where
+  pub searching_fits : i < length nodes → i + node_width ≤ length nodes
+  searching_fits l = go (followed s.windows s.after) s.coming
+    where
+      go : (y : Forest) → NodesToCome nodes i y → i + node_width ≤ length nodes
+      go none k = absurd (omega (arith, nodes_left k))
+      go (node r q w x) k = coming_fits k
+
   -- no more windows are pending than there may be nodes
   pub searching_pending : length nodes ≤ most_nodes * node_width → pending ≤ most_nodes
   searching_pending l = omega (arith, s.counts, nodes_left s.coming, tops_few (followed s.windows s.after), followed_tops s.windows s.after)

@@ -1,7 +1,7 @@
 -- The loop that adds up the rows: those of the nodes passed, and of those to come, make up the whole.
 -- Assumes nothing.
 use mathlib.Core.Path.{◌≡◌}
-use Prim.Native.Nat.{ℕ, ◌+◌, ◌<◌, max}
+use Prim.Native.Nat.{ℕ, ◌+◌, ◌≤◌, ◌<◌, max}
 use native.Mathlib.Omega.{arith}
 use mathlib.Core.List.{List}
 use lib.ListN.{length, get_or}
@@ -25,6 +25,13 @@ pub summing_start : {nodes : List ℕ} (target : ℕ) {f : Forest} → NodesOf n
 summing_start target {f} h = record { to_come = f; coming = nodes_come h; adds_up = omega arith }
 
 module _ {nodes : List ℕ} {target i total : ℕ} {f : Forest} (s : Summing nodes target i total f) where
+  pub summing_fits : i < length nodes → i + node_width ≤ length nodes
+  summing_fits l = go s.to_come s.coming
+    where
+      go : (y : Forest) → NodesToCome nodes i y → i + node_width ≤ length nodes
+      go none k = absurd (omega (arith, nodes_left k))
+      go (node r q w x) k = coming_fits k
+
   pub summing_turn : i < length nodes → Summing nodes target (i + node_width) (total + max (get_or nodes i 0) target) f
   summing_turn l = go s.to_come s.coming s.adds_up
     where

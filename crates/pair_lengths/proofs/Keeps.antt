@@ -1,5 +1,5 @@
 -- The lengths of a pair keep what is said of them. Assumes nothing.
-use mathlib.Core.Path.{◌≡◌, sym, subst}
+use mathlib.Core.Path.{◌≡◌, sym, ap, subst, ◌∙◌}
 use Prim.Native.Nat.{ℕ, ◌+◌, ◌≤◌}
 use native.Mathlib.Omega.{arith}
 use borrow.Author.Tests.{ltb-true, ltb-false}
@@ -40,3 +40,8 @@ pair_lengths_keep first second most s = lengths_of_lem first second most (kept_l
 -- so what is told of a pair keeps it
 pub lengths_keep : (first : ℕ) (second : Option ℕ) (most : ℕ) (s : Strategy) {answer : Result PairLengths Refusal} → answer ≡ pair_lengths first second most s → KeepsLengths first second most answer
 lengths_keep first second most s e = subst (KeepsLengths first second most) (sym e) (pair_lengths_keep first second most s)
+
+-- so an answer made of the lengths kept has both
+pub answers : (first : ℕ) (second : Option ℕ) (most : ℕ) (s : Strategy) {k : Result Kept Refusal} {answer : Result PairLengths Refusal} → k ≡ kept_lengths first second most s → answer ≡ lengths_of first second k → (answer ≡ pair_lengths first second most s) × KeepsLengths first second most answer
+unfolding pair_lengths
+answers first second most s e a = let t = a ∙ ap (lengths_of first second) e in (t, lengths_keep first second most s t)

@@ -19,7 +19,7 @@ use Rattle.record.specs.declared.Refusal.TheVariants.{MalformedRecord, TotalTooL
 use Rattle.record_check.specs.Answers.{shape_of}
 use Rattle.record_check.proofs.Checked.{refused_as, none_of, any_of}
 use Rattle.report_trees.specs.Counts.{windows_in}
-use Rattle.report_trees.specs.Report.{counted, summed, Within, totalled, add_answer}
+use Rattle.report_trees.specs.Report.{counted, summed, WithinTotals, totalled, add_answer}
 use Rattle.report_trees.specs.declared.Report.{Report}
 use Rattle.report_trees.proofs.Counts.{nodes_tops}
 use Rattle.report_trees.proofs.Totals.{totals_fit, totals_too_large}
@@ -32,9 +32,9 @@ added_malformed nodes rows r e =
     ap Err (refused_as (read nodes rows) (sym e)) ∙ sym (none_of (Err MalformedRecord) (λ f. totalled (summed r (counted f))) (read nodes rows) (sym e))
 
 -- the sum, if it is within the limit
-pub totalled_of : (t : Report) (sum : Option Report) → MatchOption sum (Within t → ⊥) (λ s. (s ≡ t) × Within s) → ok_or sum TotalTooLarge ≡ totalled t
+pub totalled_of : (t : Report) (sum : Option Report) → MatchOption sum (WithinTotals t → ⊥) (λ s. (s ≡ t) × WithinTotals s) → ok_or sum TotalTooLarge ≡ totalled t
 totalled_of t None n = totals_too_large t n
-totalled_of t (Some s) (e, w) = ap Ok e ∙ totals_fit t (subst Within e w)
+totalled_of t (Some s) (e, w) = ap Ok e ∙ totals_fit t (subst WithinTotals e w)
 
 module _ {nodes rows : List ℕ} {f : Forest} (s : Stores nodes rows f) where
   pub added_batch : (r : Report) → add_answer (read nodes rows) r ≡ totalled (summed r (counted f))

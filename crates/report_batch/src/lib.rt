@@ -3,7 +3,7 @@
 
 ghost use Rattle.std.specs.Prelude.{◌≡◌, MatchOption};
 ghost use Rattle.record.specs.Read.{read};
-ghost use Rattle.report_trees.specs.Report.{summed, Within, add_answer};
+ghost use Rattle.report_trees.specs.Report.{summed, WithinTotals, add_answer};
 
 use record::{Encoding, Refusal};
 use report_trees::Report;
@@ -31,8 +31,8 @@ pub fn report_add(nodes: &[u32], rows: &[u32], report: Report) -> Result<Report,
 fn total(report: Report, batch: Report) -> Option<Report>
     ensures { MatchOption
         result
-        (Within (summed report batch) → ⊥)
-        (λ t. (t ≡ summed report batch) × Within t) }
+        (WithinTotals (summed report batch) → ⊥)
+        (λ t. (t ≡ summed report batch) × WithinTotals t) }
 {
     Some(Report {
         encodings: report.encodings.checked_add(batch.encodings)?,

@@ -42,6 +42,10 @@ pub partial_whole : (batch : List ℕ) (n : ℕ) → Partial batch n → head_by
 partial_whole batch n (inl few) h = absurd (omega arith)
 partial_whole batch n (inr (c, l, s)) h = (l, s)
 
+pub partial_inside : (batch : List ℕ) (n : ℕ) → length batch ≡ most_stored → Partial batch n → n ≤ length batch
+partial_inside batch n e (inl few) = omega arith
+partial_inside batch n e (inr p) = omega (arith, p)
+
 -- ---- Settled
 
 module _ (batch numbers : List ℕ) (lent : LentStores batch numbers) (n : ℕ) (arrived : Arrived batch n) (report : Report) where

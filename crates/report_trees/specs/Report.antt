@@ -42,8 +42,8 @@ within_totals r =
     && (leb r.rows largest_total && (leb r.padding largest_total && (leb r.special largest_total && leb r.rest largest_total))))
 
 -- the same as a fact
-abbrev pub Within : Report → Type 0
-Within r =
+abbrev pub WithinTotals : Report → Type 0
+WithinTotals r =
     (r.encodings ≤ largest_total)
     × ((r.windows ≤ largest_total) × ((r.rows ≤ largest_total) × ((r.padding ≤ largest_total) × ((r.special ≤ largest_total) × (r.rest ≤ largest_total)))))
 
