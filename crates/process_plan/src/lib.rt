@@ -2,7 +2,7 @@
 #![tactic(auto)]
 
 ghost use Rattle.std.specs.Prelude.{◌≡◌};
-ghost use Rattle.process_plan.specs.Promises.{step_of, next_step, TableFits, AskStep, AskPlan, Plans};
+ghost use Rattle.process_plan.specs.Promises.{step_of, next_step, TableFits, AskPieceStep, AskPlan, Plans};
 
 use process_steps::Step;
 use record::Refusal;
@@ -79,7 +79,7 @@ fn step_of(
     entries: &[u32],
     added: &[u8],
 ) -> Result<Option<Step>, Refusal>
-    requires { AskStep text.now piece entries.now added.now }
+    requires { AskPieceStep text.now piece entries.now added.now }
     ensures { result ≡ step_of entries.now added.now add_special_tokens text.now piece }
 {
     let type_id = piece.type_id;

@@ -5,7 +5,7 @@ use Rattle.std.specs.Prelude.{Some, Ok, Err}
 use Rattle.template_text.specs.Comes.{comes_at}
 use Rattle.template_text.specs.declared.PieceStep.{PieceStep}
 use Rattle.template_text.proofs.Coming.{come_within, no_more}
-use Rattle.process_plan.specs.Promises.{next_step, coming_step, with_next}
+use Rattle.process_plan.specs.Promises.{next_step, coming_step, planned_next}
 use Rattle.process_plan.proofs.Piece.{id_inside}
 use Rattle.process_plan.proofs.next_step.Goals as goal
 use Rattle.process_plan.proofs.next_step.Goals.{In-Ok-Some, in_default-via-in-Ok+in_default, in_default-via-in_default}
@@ -36,8 +36,8 @@ pub returns-in_err-step : goal.returns-in_err-step
 unfolding next_step
 returns-in_err-step c =
     let same : c.from_residual.result ≡ Err c.in_err-step.field-0.0 = search rules in
-    rw (came (goal.at.returns-in_err-step c).In-Ok-Some) (same ∙ ap (with_next _) (sym (sym c.step_of.ensures ∙ c.in_err-step.was)))
+    rw (came (goal.at.returns-in_err-step c).In-Ok-Some) (same ∙ ap (planned_next _) (sym (sym c.step_of.ensures ∙ c.in_err-step.was)))
 
 pub returns : goal.returns
 unfolding next_step
-returns c = rw (came (goal.at.returns c).In-Ok-Some) (ap (with_next _) (sym (sym c.step_of.ensures ∙ c.in_ok-step.was)))
+returns c = rw (came (goal.at.returns c).In-Ok-Some) (ap (planned_next _) (sym (sym c.step_of.ensures ∙ c.in_ok-step.was)))
