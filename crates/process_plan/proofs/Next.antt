@@ -15,7 +15,7 @@ use Rattle.template_text.specs.declared.PieceStep.{PieceStep}
 use Rattle.template_text.proofs.Walked.{Walked}
 use Rattle.template_text.proofs.Coming.{Passing, comes}
 use Rattle.process_steps.specs.declared.Step.{Step}
-use Rattle.process_plan.specs.Promises.{step_of, with_next, coming_step, next_step}
+use Rattle.process_plan.specs.Promises.{step_of, planned_next, coming_step, next_step}
 use Rattle.process_plan.specs.declared.NextStep.{NextStep}
 use Rattle.process_plan.proofs.Piece.{listed_answer, steps_of, Unknown, Gives, piece_gives}
 
@@ -45,7 +45,7 @@ Says entries added add text at passed (Ok None) = read_parts 0 0 (parts text) �
 Says entries added add text at passed (Ok (Some coming)) = Passed entries added add text at passed (listed_answer coming.step) coming.next
 
 module _ (entries added : List ℕ) (add : Bool) {text : List ℕ} {at : ℕ} {passed : List Piece} where
-  says_piece : {step : PieceStep} (p : Passing text at passed step) (r : Result (Answer Step) Refusal) → Gives entries added add p.piece r → Says entries added add text at passed (with_next step.next r)
+  says_piece : {step : PieceStep} (p : Passing text at passed step) (r : Result (Answer Step) Refusal) → Gives entries added add p.piece r → Says entries added add text at passed (planned_next step.next r)
   says_piece {step} p (Err why) u = no_step (record { piece = p.piece; unknown = u; next = step.next; walked = p.walked })
   says_piece p (Ok None) e = record { piece = p.piece; steps_are = e; walked = p.walked; less = p.less; few = p.few }
   says_piece p (Ok (Some s)) e = record { piece = p.piece; steps_are = e; walked = p.walked; less = p.less; few = p.few }

@@ -49,14 +49,14 @@ step_of entries added add text piece = name_step entries added add text piece.na
 
 -- ---- What comes at a place to the plan, and the place after it
 
-abbrev pub with_next : ℕ → Result (Answer Step) Refusal → Result (Answer NextStep) Refusal
-with_next next (Err why) = Err why
-with_next next (Ok step) = Ok (Some (record { step = step; next = next }))
+abbrev pub planned_next : ℕ → Result (Answer Step) Refusal → Result (Answer NextStep) Refusal
+planned_next next (Err why) = Err why
+planned_next next (Ok step) = Ok (Some (record { step = step; next = next }))
 
 abbrev pub coming_step : List ℕ → List ℕ → Bool → List ℕ → Coming → Result (Answer NextStep) Refusal
 coming_step entries added add text (Err why) = Err why
 coming_step entries added add text (Ok None) = Ok None
-coming_step entries added add text (Ok (Some coming)) = with_next coming.next (step_of entries added add text coming.piece)
+coming_step entries added add text (Ok (Some coming)) = planned_next coming.next (step_of entries added add text coming.piece)
 
 unfoldable pub next_step : List ℕ → List ℕ → Bool → List ℕ → ℕ → Result (Answer NextStep) Refusal
 next_step entries added add text at = coming_step entries added add text (comes_at text at)
@@ -75,7 +75,7 @@ IdInside text B = Unit {0}
 IdInside text (SpecialName start size) = start + size ≤ length text
 
 -- Such a piece, and such a table.
-pub record AskStep (text : List ℕ) (piece : PieceRead) (entries added : List ℕ) : Type 0 where
+pub record AskPieceStep (text : List ℕ) (piece : PieceRead) (entries added : List ℕ) : Type 0 where
   pub table_fits : TableFits entries added
   pub id_inside : IdInside text piece.name
 

@@ -2,7 +2,7 @@
 #![tactic(auto)]
 
 ghost use Rattle.std.specs.Prelude.{◌≡◌};
-ghost use Rattle.process_plan.specs.Promises.{step_of, next_step, TableFits, AskStep, AskPlan, Plans};
+ghost use Rattle.process_plan.specs.Promises.{step_of, next_step, TableFits, AskPieceStep, AskPlan, Plans};
 
 use process_steps::Step;
 use record::Refusal;
@@ -55,13 +55,18 @@ fn next_step(
     requires { TableFits entries.now added.now }
     ensures { result ≡ next_step entries.now added.now add_special_tokens text.now at }
 {
-    let Some(coming) = template_text::piece_from(text, at)? else {
-        return Ok(None);
+    // No `?`: for this answer document 01 names `let .. else`.
+    let coming = template_text::piece_from(text, at);
+    let Ok(Some(found)) = coming else {
+        let Err(why) = coming else {
+            return Ok(None);
+        };
+        return Err(why);
     };
-    let step = step_of(text, coming.piece, add_special_tokens, entries, added)?;
+    let step = step_of(text, found.piece, add_special_tokens, entries, added)?;
     Ok(Some(NextStep {
         step,
-        next: coming.next,
+        next: found.next,
     }))
 }
 
@@ -74,7 +79,7 @@ fn step_of(
     entries: &[u32],
     added: &[u8],
 ) -> Result<Option<Step>, Refusal>
-    requires { AskStep text.now piece entries.now added.now }
+    requires { AskPieceStep text.now piece entries.now added.now }
     ensures { result ≡ step_of entries.now added.now add_special_tokens text.now piece }
 {
     let type_id = piece.type_id;

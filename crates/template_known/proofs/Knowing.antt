@@ -2,6 +2,7 @@
 -- with these entries. Assumes nothing.
 use mathlib.Core.Path.{◌≡◌, refl, sym, ◌∙◌, ap}
 use mathlib.Core.Bool.{Bool, true, false, ◌&&◌, and-false, and_assoc}
+use mathlib.Core.Option.{none as nothing}
 use Prim.Native.Nat.{ℕ, ◌+◌, ◌-◌, ◌/◌, ◌≤◌, ◌<◌}
 use native.Mathlib.Omega.{arith}
 use mathlib.Core.List.{List, [], ◌∷◌, ◌++◌}
@@ -9,6 +10,7 @@ use lib.ListN.{length, get_or, take, drop}
 use borrow.Author.Count.{below_more}
 use Rattle.record.specs.Read.{all_ok}
 use Rattle.record.specs.declared.Refusal.TheVariants.{SpecialIdUnknown}
+use Rattle.lookup_ranges.specs.First.{last_from}
 use Rattle.lookup_ranges.proofs.First.{nothing_last}
 use Rattle.template_parts.specs.Parts.{parts}
 use Rattle.template_pieces.specs.Piece.{Piece, sequence_a, sequence_b, special}
@@ -22,7 +24,7 @@ use Rattle.template_entries.proofs.Entries.{entries_number}
 use Rattle.template_entries.proofs.Sound.{table_holds}
 use Rattle.template_find.proofs.Found.{missing, present}
 use Rattle.template_known.specs.Known.{known, known_answer}
-use Rattle.template_known.specs.Promises.{KnownIn, SoughtAmong}
+use Rattle.template_known.specs.Promises.{KnownIn}
 use Rattle.std.specs.Prelude.{Some, None, Ok, Err}
 use Rattle.record.specs.declared.Refusal.{Refusal}
 use Rattle.template_pieces.specs.declared.Name.TheVariants.{Special as Named}
@@ -61,15 +63,8 @@ module _ {entries numbers id : List ℕ} where
     pub seek_on : i < length entries / entry_width → entry_has_id numbers id (get_or (entries_in entries) i no_entry) ≡ false → Seeking entries numbers id (i + 1)
     seek_on h e = record { inside = omega arith; none_before = below_more _ i s.none_before e }
 
-    pub seek_found : i < length entries / entry_width → entry_has_id numbers id (get_or (entries_in entries) i no_entry) ≡ true → SoughtAmong entries numbers id true
-    seek_found h e = record { has = λ _. (i, h, e); lacks = λ wrong. let z : ◌≡◌ {A = ℕ} 0 1 = cc in absurd (omega arith) }
-
-    pub seek_end : length entries / entry_width ≤ i → SoughtAmong entries numbers id false
-    seek_end h =
-        record {
-          has = λ wrong. let z : ◌≡◌ {A = ℕ} 0 1 = cc in absurd (omega arith);
-          lacks = λ _. nothing_last (entry_has_id numbers id) no_entry 0 (entries_in entries) (λ j l. s.none_before j (omega (arith, entries_number entries)));
-        }
+    pub seek_end : length entries / entry_width ≤ i → last_from (entry_has_id numbers id) 0 (entries_in entries) ≡ nothing
+    seek_end h = nothing_last (entry_has_id numbers id) no_entry 0 (entries_in entries) (λ j l. s.none_before j (omega (arith, entries_number entries)))
 
 -- ---- The pieces passed
 
@@ -128,20 +123,19 @@ module _ {text entries numbers : List ℕ} {at : ℕ} (k : Knowing text entries 
       id = take (place + long - place) (drop place text)
 
       -- an entry has the id
-      pub know_found : {found : Bool} → SoughtAmong entries numbers id found → found ≡ true → Knowing text entries numbers step.next
+      pub know_found : {i : ℕ} → i < length entries / entry_width → entry_has_id numbers id (get_or (entries_in entries) i no_entry) ≡ true → Knowing text entries numbers step.next
       unfolding known
-      know_found sought is =
-          let there = sought.has is in
-          on (λ members table t. rw (kind_special piece know_passing.is is_special, (present (table_holds entries members numbers t) id there.0 there.1 there.2).1))
+      know_found {i} among has =
+          on (λ members table t. rw (kind_special piece know_passing.is is_special, (present (table_holds entries members numbers t) id i among has).1))
 
       -- none has
-      pub know_missing : {found : Bool} → SoughtAmong entries numbers id found → found ≡ false → KnownIn text entries numbers (Err SpecialIdUnknown)
+      pub know_missing : last_from (entry_has_id numbers id) 0 (entries_in entries) ≡ nothing → KnownIn text entries numbers (Err SpecialIdUnknown)
       unfolding known known_answer
-      know_missing sought is =
+      know_missing none =
           record {
             says =
                 λ members table pieces t q.
-                let unknown : known table piece ≡ false = rw (kind_special piece know_passing.is is_special, missing (table_holds entries members numbers t) id (sought.lacks is)) in
+                let unknown : known table piece ≡ false = rw (kind_special piece know_passing.is is_special, missing (table_holds entries members numbers t) id none) in
                 let first = walked_first know_passing.walked (template_holds text q) in
                 rw (first.1, all_ok_append (known table) (k.passed ++ (piece ∷ [])) first.0, all_ok_append (known table) k.passed (piece ∷ []), unknown, and-false);
           }

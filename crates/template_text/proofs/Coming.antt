@@ -8,6 +8,7 @@ use mathlib.Core.List.{List, [], ◌∷◌, ◌++◌}
 use lib.ListN.{length, take, drop}
 use Rattle.record.specs.declared.Why.{Why}
 use Rattle.record.specs.declared.Fault.{Fault}
+use Rattle.record.specs.declared.Refusal.{Refusal}
 use borrow.Author.Tests.{le-leb}
 use Rattle.template_parts.specs.Parts.{space, parts, parts_from, part_step_at}
 use Rattle.std.specs.Prelude.{Option, Some, None, Ok, Err}
@@ -83,6 +84,12 @@ module _ (P : Coming → Type 0) (text : List ℕ) (at : ℕ) where
       go : (a : Option Part) → (part_step_at text at).answer ≡ a → P (of_part text (part_step_at text at).next a)
       go None is = end is
       go (Some found) is = by_part P text found.start found.length (part_step_at text at).next (part_found text at is).inside (bad found is) (good found is) (read_part found.start (take found.length (drop found.start text))) refl
+
+-- neither a piece nor a fault: the end
+pub no_more : (coming : Coming) → ((step : PieceStep) → coming ≡ Ok (Some step) → ⊥) → ((why : Refusal) → coming ≡ Err why → ⊥) → coming ≡ Ok None
+no_more (Err why) h k = absurd (k why refl)
+no_more (Ok None) h k = refl
+no_more (Ok (Some step)) h k = absurd (h step refl)
 
 -- ---- At any place
 

@@ -53,10 +53,14 @@ fn read_pieces(text: &[u8], pieces: &mut [u32]) -> Result<usize, Refusal>
 {
     let mut at: usize = 0;
     let mut count: usize = 0;
-    // A loop: the next piece starts where this one says.
+    // A loop: the next piece starts where this one says. No `?`: for this answer document 01 names `let .. else`.
     loop {
-        let Some(step) = piece_from(text, at)? else {
-            return Ok(count);
+        let coming = piece_from(text, at);
+        let Ok(Some(step)) = coming else {
+            let Err(why) = coming else {
+                return Ok(count);
+            };
+            return Err(why);
         };
         let numbers = numbers_of(step.piece);
         let place = count * Template::PIECE_WIDTH;

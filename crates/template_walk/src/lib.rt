@@ -27,10 +27,14 @@ pub fn sequences_in(text: &[u8]) -> Result<Named, Refusal>
     let mut a = false;
     let mut b = false;
     let mut at: usize = 0;
-    // A loop: the next piece starts where this one says.
+    // A loop: the next piece starts where this one says. No `?`: for this answer document 01 names `let .. else`.
     loop {
-        let Some(step) = template_text::piece_from(text, at)? else {
-            return Ok(Named { a, b });
+        let coming = template_text::piece_from(text, at);
+        let Ok(Some(step)) = coming else {
+            let Err(why) = coming else {
+                return Ok(Named { a, b });
+            };
+            return Err(why);
         };
         match step.piece.name {
             Name::A => a = true,
@@ -50,13 +54,17 @@ pub fn count_pieces(text: &[u8], entries: &[u32], added: &[u8]) -> Result<u64, R
     }
     let mut sum: u64 = 0;
     let mut at: usize = 0;
-    // A loop: the next piece starts where this one says.
+    // A loop and a `let .. else`, as in `sequences_in`.
     loop {
-        let Some(coming) = template_text::piece_from(text, at)? else {
-            return Ok(sum);
+        let coming = template_text::piece_from(text, at);
+        let Ok(Some(step)) = coming else {
+            let Err(refusal) = coming else {
+                return Ok(sum);
+            };
+            return Err(refusal);
         };
-        at = coming.next;
-        if let Name::Special { start, length } = coming.piece.name {
+        at = step.next;
+        if let Name::Special { start, length } = step.piece.name {
             sum += ids_of(entries, added, &text[start..start + length]);
         }
     }

@@ -4,8 +4,8 @@ use lib.ListN.{length}
 use Rattle.template_walk.proofs.Counting.{Counting}
 use Rattle.template_walk.proofs.count_pieces.Given as goal
 
-abbrev pub invariant-loop-coming : goal.invariant-loop-coming
-invariant-loop-coming l = Counting l.text l.entries l.added l.at l.sum
+abbrev pub invariant-loop-step : goal.invariant-loop-step
+invariant-loop-step l = Counting l.text l.entries l.added l.at l.sum
 
-abbrev pub decreases-loop-coming : goal.decreases-loop-coming
-decreases-loop-coming l = length l.text + 1 - l.at
+abbrev pub decreases-loop-step : goal.decreases-loop-step
+decreases-loop-step l = length l.text + 1 - l.at
