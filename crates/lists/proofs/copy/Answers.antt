@@ -9,7 +9,7 @@ use Rattle.lists.proofs.copy.Goals as goal
 pub returns : goal.returns
 returns c =
     let v = c.args in
-    let e = c.copy_from_slice.ensures.after in
+    let e = c.copy_whole.ensures in
     let k : v.from + v.n - v.from ≡ v.n = omega arith in
     let m : length (take v.n (drop v.from v.src.now)) ≡ v.n = simp (length-take, length-drop) (omega arith) in
     sets_part v.dst.now _ (take v.n (drop v.from v.src.now)) v.at v.n (omega arith) m (rw k at e)
