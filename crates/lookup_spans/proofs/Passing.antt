@@ -1,10 +1,10 @@
 -- The span of the rows passed: none at the start, one row more.
 -- Assumes nothing.
-use mathlib.Core.Path.{◌≡◌, sym, ap, ◌∙◌}
-use mathlib.Core.Bool.{Bool, cond}
-use Rattle.std.specs.Prelude.{Option as Answer, Some, None}
+use mathlib.Core.Path.{◌≡◌, sym, ap, ap₂, ◌∙◌}
+use mathlib.Core.Bool.{Bool, true, cond}
+use Rattle.std.specs.Bool.{then_some}
 use mathlib.Core.Option.{Option, none as nothing, some}
-use Prim.Native.Nat.{ℕ, ◌+◌, ◌*◌, min, max}
+use Prim.Native.Nat.{ℕ, ◌+◌, ◌*◌, ◌≤◌, min, max}
 use native.Mathlib.Numerals.{add-one}
 use native.Mathlib.Omega.{arith}
 use mathlib.Core.List.{List, [], ◌∷◌}
@@ -16,17 +16,17 @@ use Rattle.record.specs.Flat.{row_width, row_at}
 use Rattle.record.specs.Read.{several}
 use Rattle.record.proofs.Several.{several_more}
 use Rattle.lookup_spans.specs.Spans.{Span, span_from, joint, row_span, span_of}
-use Rattle.lookup_spans.specs.Seen.{seen_of}
-use Rattle.lookup_spans.specs.declared.Seen.{Seen}
+use Rattle.lookup_spans.specs.Seen.{seen_of, widest_of}
+use Rattle.lookup_spans.specs.declared.Widest.{Widest}
 use Rattle.lookup_spans.proofs.Spans.{joint_none, span_nothing, span_one, span_append}
 
 -- i rows from row number `first` on
 abbrev pub rows_from : List ℕ → ℕ → ℕ → List Row
 rows_from rows first i = several row_at row_width i (drop (first * row_width) rows)
 
-pub passed_none : (rows : List ℕ) (first : ℕ) → seen_of nothing ≡ seen_of (span_of (rows_from rows first 0))
+pub passed_none : (rows : List ℕ) (first : ℕ) → widest_of nothing ≡ widest_of (span_of (rows_from rows first 0))
 unfolding several
-passed_none rows first = ap seen_of (sym span_nothing)
+passed_none rows first = ap widest_of (sym span_nothing)
 
 -- ---- One row more
 
@@ -60,20 +60,29 @@ module _ (mask start end : ℕ) (s : Option Span) where
   own = some (span_from start end)
 
   -- a row that does not count
-  pub step_special : {seen : Answer Seen} → seen ≡ seen_of s → (mask ≡ 0 → ⊥) → seen ≡ seen_of (joint s (row_span mask start end))
-  step_special e n = e ∙ ap seen_of (sym (ap (λ (b : Bool). joint s (cond b own nothing)) (ne_eqb mask 0 n) ∙ joint_none s))
+  pub step_special : {seen : Widest} → seen ≡ widest_of s → (mask ≡ 0 → ⊥) → seen ≡ widest_of (joint s (row_span mask start end))
+  step_special e n = e ∙ ap widest_of (sym (ap (λ (b : Bool). joint s (cond b own nothing)) (ne_eqb mask 0 n) ∙ joint_none s))
 
   counts : mask ≡ 0 → joint s own ≡ joint s (row_span mask start end)
   counts z = ap (λ (b : Bool). joint s (cond b own nothing)) (sym (eq-eqb mask 0 z))
 
--- the first that counts
-pub step_first : (mask start end : ℕ) (s : Option Span) → None ≡ seen_of s → mask ≡ 0 → Some (record { start = start; end = end }) ≡ seen_of (joint s (row_span mask start end))
-step_first mask start end nothing e z = ap seen_of (counts mask start end nothing z)
-step_first mask start end (some s) e z = absurd (let z : ◌≡◌ {A = ℕ} 0 1 = cc in omega arith)
+-- one that counts, the first or a further one
+pub step_plain : (seen : Widest) (mask start end : ℕ) (s : Option Span) → start ≤ 4294967295 → seen ≡ widest_of s → mask ≡ 0
+    → record { found = true; start = min seen.start start; end = max seen.end end } ≡ widest_of (joint s (row_span mask start end))
+step_plain seen mask start end s h e z = go s e ∙ ap widest_of (counts mask start end s z)
+  where
+    wider : Widest → Widest
+    wider p = record { found = true; start = min p.start start; end = max p.end end }
 
--- a further one
-pub step_further : (before : Seen) (mask start end : ℕ) (s : Option Span) → Some before ≡ seen_of s → mask ≡ 0 → Some (record { start = min before.start start; end = max before.end end }) ≡ seen_of (joint s (row_span mask start end))
-step_further before mask start end nothing e z = absurd (let z : ◌≡◌ {A = ℕ} 0 1 = cc in omega arith)
-step_further before mask start end (some s) e z =
-    let same : before ≡ record { start = s.start; end = s.end } = cc in
-    ap (λ (x : Seen). Some (record { start = min x.start start; end = max x.end end })) same ∙ ap seen_of (counts mask start end (some s) z)
+    go : (s : Option Span) → seen ≡ widest_of s → wider seen ≡ widest_of (joint s (some (span_from start end)))
+    go nothing e =
+        let least : min 4294967295 start ≡ start = omega arith in
+        let greatest : max 0 end ≡ end = omega arith in
+        ap wider e ∙ ap₂ (λ (a b : ℕ). widest_of (some (span_from a b))) least greatest
+    go (some s) e = ap wider e
+
+-- ---- The span at the end
+
+pub told : (s : Option Span) {seen : Widest} → seen ≡ widest_of s → then_some seen.found (record { start = seen.start; end = seen.end }) ≡ seen_of s
+told nothing e = ap (λ (p : Widest). then_some p.found (record { start = p.start; end = p.end })) e
+told (some s) e = ap (λ (p : Widest). then_some p.found (record { start = p.start; end = p.end })) e
